@@ -1,0 +1,5 @@
+pub mod Keywords
+pub mod Literals
+pub mod Reasons
+pub mod Lines
+pub mod Shown

@@ -1,0 +1,16 @@
+// What the lines of a trace say.
+mod keywords;
+mod literals;
+mod lines;
+mod reasons;
+mod shapes;
+
+pub use lines::read_event;
+pub use reasons::read_reason;
+pub use shapes::Event;
+pub use shapes::LineKind;
+pub use shapes::Literals;
+pub use shapes::Mode;
+pub use shapes::NamedLiteral;
+pub use shapes::Reason;
+pub use shapes::SolverLiteral;

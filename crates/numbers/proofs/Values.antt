@@ -1,0 +1,71 @@
+-- Numbers by their bytes: at a digit, at another byte, past the limit, after a sign. Assumes nothing.
+use mathlib.Core.Path.{_≡_, refl, sym, ap, _∙_}
+use mathlib.Core.Bool.{Bool, true, false, cond, _&&_}
+use mathlib.Core.List.{List, [], _∷_}
+use Prim.Native.Nat.{ℕ, _+_, _*_, _-_, _^_, _≤_, _<_}
+use native.Mathlib.Omega.{arith}
+use lib.Dec.{leb}
+use lib.IntN.{pos, negℤ}
+use lib.ListN.{length, getD, take, drop}
+use borrow.Author.Tests.{le-leb, lt-leb, eq-eqb, ne-eqb}
+use Rattle.std.proofs.shelf.Lists.{take-rest}
+use Rattle.std.specs.declared.option.Option.the-variants.{Some, None}
+use Rattle.std.specs.Options.{mapped}
+use Rattle.std.specs.Text.{asciiDigit}
+use Rattle.std.specs.shelf.Text.{allDigits}
+use Rattle.numbers.specs.Numeral.{value-after, digits-after, unsigned, numeral, signed}
+
+value-ge : (n : ℕ) (cs : List ℕ) → n ≤ value-after n cs
+value-ge n [] = omega arith
+value-ge n (c ∷ cs) = omega (arith, value-ge (n * 10 + (c - 48)) cs)
+
+pub at-digit : (limit n c : ℕ) (cs : List ℕ) → asciiDigit c ≡ true → digits-after limit n (c ∷ cs) ≡ digits-after limit (n * 10 + (c - 48)) cs
+at-digit limit n c cs e = ap (λ t. cond ((t && allDigits cs) && leb (value-after n (c ∷ cs)) limit) (Some (value-after n (c ∷ cs))) None) e
+
+pub at-other : (limit n c : ℕ) (cs : List ℕ) → asciiDigit c ≡ false → digits-after limit n (c ∷ cs) ≡ None
+at-other limit n c cs e = ap (λ t. cond ((t && allDigits cs) && leb (value-after n (c ∷ cs)) limit) (Some (value-after n (c ∷ cs))) None) e
+
+and-false : (t : Bool) → (t && false) ≡ false
+and-false true = refl
+and-false false = refl
+
+pub past-limit : (limit n : ℕ) (cs : List ℕ) → limit < n → digits-after limit n cs ≡ None
+past-limit limit n cs over =
+    let large : leb (value-after n cs) limit ≡ false = lt-leb _ _ (omega (arith, value-ge n cs)) in
+    ap (λ t. cond (allDigits cs && t) (Some (value-after n cs)) None) large ∙ ap (λ t. cond t (Some (value-after n cs)) None) (and-false (allDigits cs))
+
+pub at-end : (limit n : ℕ) → n ≤ limit → digits-after limit n [] ≡ Some n
+at-end limit n h = ap (λ t. cond t (Some n) None) (le-leb n limit h)
+
+pub not-empty : (limit : ℕ) (cs : List ℕ) → 0 < length cs → unsigned limit cs ≡ digits-after limit 0 cs
+not-empty limit [] h = absurd (omega arith)
+not-empty limit (c ∷ cs) h = refl
+
+pub unsigned-empty : (limit : ℕ) (cs : List ℕ) → length cs ≡ 0 → unsigned limit cs ≡ None
+unsigned-empty limit [] e = refl
+unsigned-empty limit (c ∷ cs) e = absurd (omega arith)
+
+-- a sign in front; the rest as `&text[1..]` has it
+pub numeral-plus : (limit : ℕ) (cs : List ℕ) → 0 < length cs → getD cs 0 0 ≡ 43 → numeral limit cs ≡ unsigned limit (take (length cs - 1) (drop 1 cs))
+numeral-plus limit [] some plus = absurd (omega arith)
+numeral-plus limit (c ∷ cs) some plus =
+    ap (λ t. cond t (unsigned limit cs) (unsigned limit (c ∷ cs))) (eq-eqb c 43 plus) ∙ ap (unsigned limit) (sym (take-rest (c ∷ cs) 1))
+
+pub signed-minus : (cs : List ℕ) → 0 < length cs → getD cs 0 0 ≡ 45 → signed cs ≡ mapped (λ n. negℤ (pos n)) (unsigned (2 ^ 31) (take (length cs - 1) (drop 1 cs)))
+signed-minus [] some minus = absurd (omega arith)
+signed-minus (c ∷ cs) some minus =
+    ap (λ t. cond t (mapped (λ n. negℤ (pos n)) (unsigned (2 ^ 31) cs)) (mapped pos (numeral (2 ^ 31 - 1) (c ∷ cs)))) (eq-eqb c 45 minus)
+    ∙ ap (λ ds. mapped (λ n. negℤ (pos n)) (unsigned (2 ^ 31) ds)) (sym (take-rest (c ∷ cs) 1))
+
+-- no sign in front
+pub numeral-plain : (limit : ℕ) (cs : List ℕ) → (getD cs 0 0 ≡ 43 → ⊥) → numeral limit cs ≡ unsigned limit cs
+numeral-plain limit [] bare = refl
+numeral-plain limit (c ∷ cs) bare = ap (λ t. cond t (unsigned limit cs) (unsigned limit (c ∷ cs))) (ne-eqb c 43 bare)
+
+pub signed-plain : (cs : List ℕ) → (getD cs 0 0 ≡ 45 → ⊥) → signed cs ≡ mapped pos (numeral (2 ^ 31 - 1) cs)
+signed-plain [] bare = refl
+signed-plain (c ∷ cs) bare = ap (λ t. cond t (mapped (λ n. negℤ (pos n)) (unsigned (2 ^ 31) cs)) (mapped pos (numeral (2 ^ 31 - 1) (c ∷ cs)))) (ne-eqb c 45 bare)
+
+pub empty-first : (cs : List ℕ) (c : ℕ) → length cs ≡ 0 → 0 < c → getD cs 0 0 ≡ c → ⊥
+empty-first [] c e some first = omega arith
+empty-first (d ∷ ds) c e some first = omega arith

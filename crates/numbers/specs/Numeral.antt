@@ -1,0 +1,35 @@
+-- The numbers that texts write in decimal. Assumes nothing.
+--   value-after n cs          the value of the digits cs after those of n
+--   digits-after limit n cs   that value, where cs are digits and it is within the limit
+--   unsigned limit cs         the number that one digit or more write, within the limit
+--   numeral limit cs          the same, where one plus sign may stand in front
+--   signed cs                 the number of 32 bits that digits write after at most one sign
+use mathlib.Core.Bool.{cond, _&&_}
+use mathlib.Core.List.{List, [], _∷_}
+use Prim.Native.Nat.{ℕ, _+_, _*_, _-_, _^_}
+use lib.Dec.{leb, eqb}
+use lib.IntN.{ℤ, pos, negℤ}
+use Rattle.std.specs.Options.{mapped}
+use Rattle.std.specs.declared.option.Option.{Option}
+use Rattle.std.specs.declared.option.Option.the-variants.{Some, None}
+use Rattle.std.specs.shelf.Text.{allDigits}
+
+abbrev pub value-after : ℕ → List ℕ → ℕ
+value-after n [] = n
+value-after n (c ∷ cs) = value-after (n * 10 + (c - 48)) cs
+
+abbrev pub digits-after : ℕ → ℕ → List ℕ → Option ℕ
+digits-after limit n cs = cond (allDigits cs && leb (value-after n cs) limit) (Some (value-after n cs)) None
+
+abbrev pub unsigned : ℕ → List ℕ → Option ℕ
+unsigned limit [] = None
+unsigned limit (c ∷ cs) = digits-after limit 0 (c ∷ cs)
+
+abbrev pub numeral : ℕ → List ℕ → Option ℕ
+numeral limit [] = None
+numeral limit (c ∷ cs) = cond (eqb c 43) (unsigned limit cs) (unsigned limit (c ∷ cs))
+
+abbrev pub signed : List ℕ → Option ℤ
+signed [] = None
+signed (c ∷ cs) =
+    cond (eqb c 45) (mapped (λ n. negℤ (pos n)) (unsigned (2 ^ 31) cs)) (mapped pos (numeral (2 ^ 31 - 1) (c ∷ cs)))

@@ -1,0 +1,123 @@
+// Decimal numbers, read from bytes.
+//
+// One sign may stand in front, zeros may lead, and a number past the limit is refused.
+ghost use mathlib.Core.Path.{_≡_};
+ghost use Prim.Native.Nat.{ℕ, _+_, _*_, _-_, _^_, _≤_};
+ghost use lib.IntN.{ℤ, pos, negℤ};
+ghost use mir.Syntax.{w32};
+ghost use mir.Val.{SFits};
+ghost use Rattle.std.specs.Numbers.{Checked};
+ghost use Rattle.std.specs.Options.{mapped};
+ghost use Rattle.std.specs.Written.{decimal, signed as written};
+ghost use Rattle.std.specs.declared.option.Option.the-variants.{Some};
+ghost use Rattle.numbers.specs.Numeral.{numeral, unsigned, signed};
+
+// The number that the text writes, with at most one `+` in front.
+pub fn number(text: &[u8], limit: u64) -> Option<u64>
+    ensures value { λ r. ⌜ r ≡ numeral limit (now (text .entry)) ⌝ }
+    ensures laws { λ _. ⌜ ((n : ℕ) → n ≤ limit → numeral limit (decimal n) ≡ Some n) ⌝ }
+{
+    if !text.is_empty() && text[0] == b'+' {
+        digits(&text[1..], limit)
+    } else {
+        digits(text, limit)
+    }
+}
+
+// The same with no sign.
+pub fn digits(text: &[u8], limit: u64) -> Option<u64>
+    ensures value { λ r. ⌜ r ≡ unsigned limit (now (text .entry)) ⌝ }
+    ensures laws { λ _. ⌜ ((n : ℕ) → n ≤ limit → unsigned limit (decimal n) ≡ Some n) ⌝ }
+{
+    let mut value: u64 = 0;
+    for b in text {
+        if !b.is_ascii_digit() {
+            return None;
+        }
+        let digit = u64::from(*b - b'0');
+        match grown(value, digit, limit) {
+            Some(more) => value = more,
+            None => return None,
+        }
+    }
+    if text.is_empty() { None } else { Some(value) }
+}
+
+// The value with one digit more, unless it is past the limit.
+fn grown(value: u64, digit: u64, limit: u64) -> Option<u64>
+    ensures { λ r. ⌜ Checked r (value * 10 + digit ≤ limit) (value * 10 + digit) ⌝ }
+{
+    let more = value.checked_mul(10)?.checked_add(digit)?;
+    if more <= limit { Some(more) } else { None }
+}
+
+pub fn number_u64(text: &[u8]) -> Option<u64>
+    ensures { λ r. ⌜ r ≡ numeral (2 ^ 64 - 1) (now (text .entry)) ⌝ }
+{
+    number(text, u64::MAX)
+}
+
+pub fn number_u32(text: &[u8]) -> Option<u32>
+    ensures { λ r. ⌜ r ≡ numeral (2 ^ 32 - 1) (now (text .entry)) ⌝ }
+{
+    match number(text, u64::from(u32::MAX)) {
+        Some(value) => Some(value as u32),
+        None => None,
+    }
+}
+
+// The number that the text writes, with at most one `+` or `-` in front.
+pub fn number_i32(text: &[u8]) -> Option<i32>
+    ensures value { λ r. ⌜ r ≡ signed (now (text .entry)) ⌝ }
+    ensures laws { λ _. ⌜ ((z : ℤ) → SFits w32 z → signed (written z) ≡ Some z) ⌝ }
+{
+    if !text.is_empty() && text[0] == b'-' {
+        negative(&text[1..])
+    } else {
+        positive(text)
+    }
+}
+
+// The number below zero whose digits follow a minus sign.
+fn negative(text: &[u8]) -> Option<i32>
+    ensures { λ r. ⌜ r ≡ mapped (λ n. negℤ (pos n)) (unsigned (2 ^ 31) (now (text .entry))) ⌝ }
+{
+    match digits(text, 2_147_483_648) {
+        Some(value) => Some(-(value as i64) as i32),
+        None => None,
+    }
+}
+
+fn positive(text: &[u8]) -> Option<i32>
+    ensures { λ r. ⌜ r ≡ mapped pos (numeral (2 ^ 31 - 1) (now (text .entry))) ⌝ }
+{
+    match number(text, 2_147_483_647) {
+        Some(value) => Some(value as i32),
+        None => None,
+    }
+}
+
+#[cfg(test)]
+mod tests {
+    use super::*;
+    use std::test::*;
+
+    #[test]
+    fn limits() -> Result<(), Fail> {
+        check_eq(number_u32(b"+004294967295"), Some(4_294_967_295))?;
+        check_eq(number_u32(b"4294967296"), None)?;
+        check_eq(number_u64(b"18446744073709551616"), None)?;
+        check_eq(digits(b"+1", 9), None)?;
+        check_eq(number(b"++1", 9), None)
+    }
+
+    #[test]
+    fn signs() -> Result<(), Fail> {
+        check_eq(number_i32(b"-2147483648"), Some(-2_147_483_648))?;
+        check_eq(number_i32(b"-2147483649"), None)?;
+        check_eq(number_i32(b"+2147483647"), Some(2_147_483_647))?;
+        check_eq(number_i32(b"-0"), Some(0))?;
+        check_eq(number_i32(b"+-1"), None)?;
+        check_eq(number_i32(b"-"), None)
+    }
+}

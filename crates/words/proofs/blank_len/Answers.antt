@@ -1,0 +1,18 @@
+use mathlib.Core.Path.{sym}
+use native.Mathlib.Omega.{arith}
+use Rattle.std.proofs.shelf.Sums.{leading-drop-yes, leading-drop-no, leading-drop-all}
+use Rattle.words.specs.Words.{separator}
+use Rattle.words.proofs.blank_len.Needs as need
+
+pub loop-n-again : need.loop-n-again
+loop-n-again c =
+    let step = leading-drop-yes separator (c .args .text .now) (c .loop-n .n) 0 (c .loop-n-test .taken) (sym (c .if-is-separator .ensures tt)) in
+    (omega arith, omega (arith, step, c .loop-n .inv .1))
+
+pub returns-else-is-separator : need.returns-else-is-separator
+returns-else-is-separator c =
+    omega (arith, leading-drop-no separator (c .args .text .now) (c .loop-n .n) 0 (c .loop-n-test .taken) (sym (c .if-is-separator .ensures tt)), c .loop-n .inv .1)
+
+pub returns-after-loop-n : need.returns-after-loop-n
+returns-after-loop-n c =
+    omega (arith, leading-drop-all separator (c .args .text .now) (c .loop-n .n) (c .loop-n-test .left), c .loop-n .inv .1)

@@ -1,0 +1,27 @@
+use mathlib.Core.Path.{_≡_, refl, sym, ap, _∙_}
+use Prim.Native.Nat.{_<_}
+use native.Mathlib.Omega.{arith}
+use lib.ListN.{length, drop}
+use borrow.Author.Tests.{false-eqb, true-eqb}
+use Rattle.words.proofs.Places.{left-none, left-fits, left-some, drop-min}
+use Rattle.words.proofs.rest.Words.next.Needs as need
+
+pub returns-then-is-empty : need.returns-then-is-empty
+returns-then-is-empty c =
+    let w = c .args .self in
+    let text = c .split-at .ensures .back ∙ ap (λ n. drop n (w .line .now)) (c .min .ensures) ∙ drop-min (w .place) (w .line .now) in
+    let none : length (c .next-word .result .0 .now) ≡ 0 = omega (arith, true-eqb) in
+    record { value = left-none (w .place) (w .line .now) (c .split-at .result .1 .now) (c .next-word .result .0 .now) (c .next-word .result .1 .now) text (c .next-word .ensures .laws) none; same = tt }
+
+pub sub-word : need.sub-word
+sub-word c =
+    let w = c .args .self in
+    let text = c .split-at .ensures .back ∙ ap (λ n. drop n (w .line .now)) (c .min .ensures) ∙ drop-min (w .place) (w .line .now) in
+    left-fits (w .place) (w .line .now) (c .split-at .result .1 .now) (c .next-word .result .0 .now) (c .next-word .result .1 .now) text (c .next-word .ensures .laws)
+
+pub returns : need.returns
+returns c =
+    let w = c .args .self in
+    let text = c .split-at .ensures .back ∙ ap (λ n. drop n (w .line .now)) (c .min .ensures) ∙ drop-min (w .place) (w .line .now) in
+    let some : 0 < length (c .next-word .result .0 .now) = omega (arith, false-eqb) in
+    record { value = left-some (w .place) (w .line .now) (c .split-at .result .1 .now) (c .next-word .result .0 .now) (c .next-word .result .1 .now) text (c .next-word .ensures .laws) some; same = refl }

@@ -1,0 +1,97 @@
+// The words of a line: runs of bytes between separators.
+ghost use mathlib.Core.Path.{_≡_};
+ghost use Prim.Native.Nat.{_+_};
+ghost use lib.ListN.{length};
+ghost use Rattle.std.specs.shelf.Lists.{All, leading};
+ghost use Rattle.std.specs.shelf.Text.{sameBytes};
+ghost use Rattle.words.specs.Words.{separator, letter, blanks, next-word, Cut, words, Stands};
+ghost use Rattle.words.specs.Left.{left, end, taken, Ends};
+
+mod rest;
+
+pub use rest::Word;
+pub use rest::Words;
+
+// `==` on bytes, told as a test that a definition can cite.
+pub fn same_bytes(word: &[u8], text: &[u8]) -> bool
+    ensures { λ r. ⌜ r ≡ sameBytes (now (word .entry)) (now (text .entry)) ⌝ }
+{
+    word == text
+}
+
+fn is_separator(b: u8) -> bool
+    ensures { λ r. ⌜ r ≡ separator b ⌝ }
+{
+    matches!(b, b' ' | b'\t' | b'\n' | 0x0C | b'\r')
+}
+
+// How many separators stand at the front.
+fn blank_len(text: &[u8]) -> usize
+    ensures { λ r. ⌜ r ≡ blanks (now (text .entry)) ⌝ }
+{
+    let mut n = 0;
+    while n < text.len() && is_separator(text[n]) {
+        n += 1;
+    }
+    n
+}
+
+// How many letters stand at the front.
+fn word_len(text: &[u8]) -> usize
+    ensures { λ r. ⌜ r ≡ leading letter (now (text .entry)) ⌝ }
+{
+    let mut n = 0;
+    while n < text.len() && !is_separator(text[n]) {
+        n += 1;
+    }
+    n
+}
+
+// The next word, which is empty where none is left, and the rest of the line.
+pub fn next_word(line: &[u8]) -> (&[u8], &[u8])
+    ensures value { λ r. ⌜ (now (r .0), now (r .1)) ≡ next-word (now (line .entry)) ⌝ }
+    ensures laws { λ r. ⌜ Cut (now (line .entry)) (now (r .0)) (now (r .1)) ⌝ }
+{
+    let (_, text) = line.split_at(blank_len(line));
+    text.split_at(word_len(text))
+}
+
+impl<'a> Words<'a> {
+    // All words of a line; each is a part of it at its place.
+    pub fn of(line: &'a [u8]) -> Self
+        ensures value { λ r. ⌜ left r ≡ words 0 (now (line .entry)) ⌝ }
+        ensures end { λ r. ⌜ end r ≡ length (now (line .entry)) ⌝ }
+        ensures parts { λ r. ⌜ All (Stands 0 (now (line .entry))) (left r) ⌝ }
+    {
+        Words {
+            line,
+            place: 0,
+        }
+    }
+
+    // The next word and what is left after it, or nothing where no word is left.
+    pub fn next(self) -> Option<(Word<'a>, Words<'a>)>
+        ensures value { λ r. ⌜ taken r ≡ left (self .entry) ⌝ }
+        ensures same { λ r. ⌜ Ends (self .entry) r ⌝ }
+    {
+        let line = self.line;
+        let (_, text) = line.split_at(self.place.min(line.len()));
+        let (letters, rest) = next_word(text);
+        if letters.is_empty() {
+            return None;
+        }
+        let place = line.len() - rest.len();
+        let word = Word {
+            letters,
+            place: place - letters.len(),
+        };
+        Some((word, Words { line, place }))
+    }
+
+    // The line's length: the place where a word is missing.
+    pub fn end(self) -> usize
+        ensures { λ r. ⌜ r ≡ end (self .entry) ⌝ }
+    {
+        self.line.len()
+    }
+}
