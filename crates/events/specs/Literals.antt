@@ -4,12 +4,14 @@
 --   and-then r f         what f makes of the value and the words left
 --   named end ws         the named literal at the front of the words, or none where no word is left; end is the line's length
 --   solver mode end ws   the solver literal at the front of the words
---   literals end ws      all named literals of the words, up to the first fault
+--   literals end ws      all named literals of the words, unless one is at fault
+--   next-literal end ws  what a cursor over them gives next, and the words that it leaves
 use mathlib.Core.Bool.{Bool, true, false, cond}
 use mathlib.Core.List.{List, [], _∷_}
-use Prim.Native.Nat.{ℕ, _^_, _-_}
+use Prim.Native.Nat.{ℕ, _^_, _-_, _<_}
 use lib.Chars.{codes}
 use lib.Dec.{eqb}
+use lib.ListN.{length}
 use Rattle.std.specs.declared.option.Option.{Option}
 use Rattle.std.specs.declared.option.Option.the-variants.{Some, None}
 use Rattle.std.specs.declared.result.Result.{Result}
@@ -125,3 +127,24 @@ literals-after true end (w ∷ ws) = closing (w .place) (stripped 41 (w .letters
 
 abbrev pub literals : ℕ → List Placed → Result (List Named) Refusal
 literals end ws = literals-after false end ws
+
+-- the next literal and the words after it; at the line's end and at a fault the words stay
+abbrev pub next-of : List Placed → Result (Option (Named × List Placed)) Refusal → Result (Option Named) Refusal × List Placed
+next-of ws (Ok None) = (Ok None, ws)
+next-of ws (Ok (Some r)) = (Ok (Some (r .0)), r .1)
+next-of ws (Err e) = (Err e, ws)
+
+abbrev pub next-literal : ℕ → List Placed → Result (Option Named) Refusal × List Placed
+next-literal end ws = next-of ws (named end ws)
+
+-- the literals from one on, by what the cursor gave and the literals after it
+abbrev pub given : Result (Option Named) Refusal → Result (List Named) Refusal → Result (List Named) Refusal
+given (Ok None) later = Ok []
+given (Ok (Some n)) later = consed n later
+given (Err e) later = Err e
+
+-- a literal takes a word at least
+abbrev pub Shorter : Result (Option Named) Refusal → List Placed → List Placed → Type 0
+Shorter (Ok None) rest ws = Unit {0}
+Shorter (Ok (Some n)) rest ws = length rest < length ws
+Shorter (Err e) rest ws = Unit {0}

@@ -1,6 +1,6 @@
 -- What the program's answers mean, as words and numbers.
 --   shown r       what a reading of a line gave
---   shown-next r  what the cursor over named literals gave
+--   next-shown r  what the cursor over named literals gave
 --   Kept w r      the words left after a reading of w are of the same line
 use mathlib.Core.Path.{_≡_}
 use mathlib.Core.List.{List}
@@ -53,6 +53,11 @@ abbrev pub named-read : Result (Option (NamedLiteral × Words)) Refusal → Resu
 named-read (Ok None) = Ok None
 named-read (Ok (Some r)) = Ok (Some (literal-of (r .0), left (r .1)))
 named-read (Err e) = Err e
+
+abbrev pub next-shown : Result (Option NamedLiteral) Refusal → Result (Option Named) Refusal
+next-shown (Ok None) = Ok None
+next-shown (Ok (Some n)) = Ok (Some (literal-of n))
+next-shown (Err e) = Err e
 
 -- the words left after a reading are of the same line
 abbrev pub Kept : {A : Type 0} → Words → Result (A × Words) Refusal → Type 0

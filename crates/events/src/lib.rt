@@ -5,6 +5,7 @@ mod lines;
 mod reasons;
 mod shapes;
 
+pub use lines::check_line;
 pub use lines::read_event;
 pub use reasons::read_reason;
 pub use shapes::Event;

@@ -3,13 +3,15 @@ ghost use mathlib.Core.Path.{_≡_};
 ghost use Rattle.words.specs.Left.{left, end};
 ghost use Rattle.events.specs.Lines.{integer, by-kind, event-of, line-kind};
 ghost use Rattle.events.specs.Shown.{read-of, shown, Kept};
-ghost use Rattle.events.specs.declared.shapes.LineKind.the-variants.{Assign as Assigns, Push as Pushes, Pop as Pops, BeginCheck as Checks};
 use crate::keywords::line_kind;
+use crate::literals::check_literals;
 use crate::literals::named_literal;
 use crate::reasons::expect_completed;
+use crate::reasons::read_reason;
 use crate::shapes::Event;
 use crate::shapes::LineKind;
 use crate::shapes::Literals;
+use crate::shapes::Mode;
 use numbers::number_u64;
 use refusal::Refusal;
 use words::Words;
@@ -29,7 +31,7 @@ fn integer<'a>(words: Words<'a>, least: u64) -> Result<(u64, Words<'a>), Refusal
 }
 
 fn assign<'a>(words: Words<'a>) -> Result<Event<'a>, Refusal>
-    ensures { λ r. ⌜ shown r ≡ by-kind Assigns (end (words .entry)) (left (words .entry)) ⌝ }
+    ensures { λ r. ⌜ shown r ≡ by-kind LineKind.Assign (end (words .entry)) (left (words .entry)) ⌝ }
 {
     let Some((literal, rest)) = named_literal(words)? else {
         return Err(Refusal::UnexpectedNewline { place: words.end() });
@@ -38,7 +40,7 @@ fn assign<'a>(words: Words<'a>) -> Result<Event<'a>, Refusal>
 }
 
 fn push<'a>(words: Words<'a>) -> Result<Event<'a>, Refusal>
-    ensures { λ r. ⌜ shown r ≡ by-kind Pushes (end (words .entry)) (left (words .entry)) ⌝ }
+    ensures { λ r. ⌜ shown r ≡ by-kind LineKind.Push (end (words .entry)) (left (words .entry)) ⌝ }
 {
     let (scope, rest) = integer(words, 0)?;
     expect_completed(rest)?;
@@ -46,7 +48,7 @@ fn push<'a>(words: Words<'a>) -> Result<Event<'a>, Refusal>
 }
 
 fn pop<'a>(words: Words<'a>) -> Result<Event<'a>, Refusal>
-    ensures { λ r. ⌜ shown r ≡ by-kind Pops (end (words .entry)) (left (words .entry)) ⌝ }
+    ensures { λ r. ⌜ shown r ≡ by-kind LineKind.Pop (end (words .entry)) (left (words .entry)) ⌝ }
 {
     let (count, rest) = integer(words, 1)?;
     let (scope, after) = integer(rest, 0)?;
@@ -55,7 +57,7 @@ fn pop<'a>(words: Words<'a>) -> Result<Event<'a>, Refusal>
 }
 
 fn begin_check<'a>(words: Words<'a>) -> Result<Event<'a>, Refusal>
-    ensures { λ r. ⌜ shown r ≡ by-kind Checks (end (words .entry)) (left (words .entry)) ⌝ }
+    ensures { λ r. ⌜ shown r ≡ by-kind LineKind.BeginCheck (end (words .entry)) (left (words .entry)) ⌝ }
 {
     let (scope, _) = integer(words, 0)?;
     Ok(Event::BeginCheck { scope })
@@ -78,5 +80,23 @@ pub fn read_event(line: &[u8]) -> Result<Event<'_>, Refusal>
         LineKind::Push => push(rest),
         LineKind::Pop => pop(rest),
         LineKind::BeginCheck => begin_check(rest),
+    }
+}
+
+// The kind of a line, once all of it is read; no book is asked.
+pub fn check_line(line: &[u8], mode: Mode) -> Result<LineKind, Refusal>
+    ensures value { λ r. ⌜ r ≡ line-kind mode (now (line .entry)) ⌝ }
+{
+    match read_event(line)? {
+        Event::Other => Ok(LineKind::Other),
+        Event::Assign { rest, .. } => {
+            read_reason(rest, mode)?;
+            Ok(LineKind::Assign)
+        }
+        Event::DecideAndOr => Ok(LineKind::DecideAndOr),
+        Event::Conflict { literals } => check_literals(literals),
+        Event::Push { .. } => Ok(LineKind::Push),
+        Event::Pop { .. } => Ok(LineKind::Pop),
+        Event::BeginCheck { .. } => Ok(LineKind::BeginCheck),
     }
 }

@@ -1,12 +1,15 @@
 // Literals, read from the words of a line.
 ghost use mathlib.Core.Path.{_≡_};
 ghost use Rattle.words.specs.Left.{left, end, word-of};
-ghost use Rattle.events.specs.Literals.{after-not, named, variable, bare, lettered, prefixed, solver};
-ghost use Rattle.events.specs.Shown.{read-of, word-read, named-read, Kept, Kept-named};
+ghost use Rattle.events.specs.Lines.{passed};
+ghost use Rattle.events.specs.Literals.{after-not, named, variable, bare, lettered, prefixed, solver, next-literal, literals, given, Shorter};
+ghost use Rattle.events.specs.Shown.{read-of, word-read, named-read, next-shown, Kept, Kept-named};
 use crate::keywords::literal_word;
 use crate::keywords::strip_first;
 use crate::keywords::strip_last;
+use crate::shapes::LineKind;
 use crate::shapes::LiteralWord;
+use crate::shapes::Literals;
 use crate::shapes::Mode;
 use crate::shapes::NamedLiteral;
 use crate::shapes::SolverLiteral;
@@ -119,4 +122,35 @@ pub(crate) fn solver_literal<'a>(words: Words<'a>, mode: Mode) -> Result<(Solver
         Mode::Bare => Ok((bare_literal(word)?, rest)),
         Mode::Prefixed => prefixed_literal(word, rest),
     }
+}
+
+impl<'a> Literals<'a> {
+    fn step(&mut self) -> Result<Option<NamedLiteral<'a>>, Refusal>
+        ensures value { λ r. ⌜ (next-shown r, left (now (self .exit) .rest)) ≡ next-literal (end (now (self .entry) .rest)) (left (now (self .entry) .rest)) ⌝ }
+        ensures same { λ _. ⌜ end (now (self .exit) .rest) ≡ end (now (self .entry) .rest) ⌝ }
+    {
+        let Some((literal, rest)) = named_literal(self.rest)? else {
+            return Ok(None);
+        };
+        self.rest = rest;
+        Ok(Some(literal))
+    }
+
+    // The next literal, or nothing at the line's end; at a fault the cursor stays.
+    pub fn next(&mut self) -> Result<Option<NamedLiteral<'a>>, Refusal>
+        ensures value { λ r. ⌜ (next-shown r, left (now (self .exit) .rest)) ≡ next-literal (end (now (self .entry) .rest)) (left (now (self .entry) .rest)) ⌝ }
+        ensures same { λ _. ⌜ end (now (self .exit) .rest) ≡ end (now (self .entry) .rest) ⌝ }
+        ensures laws { λ r. ⌜ literals (end (now (self .entry) .rest)) (left (now (self .entry) .rest)) ≡ given (next-shown r) (literals (end (now (self .entry) .rest)) (left (now (self .exit) .rest))) ⌝ }
+        ensures shorter { λ r. ⌜ Shorter (next-shown r) (left (now (self .exit) .rest)) (left (now (self .entry) .rest)) ⌝ }
+    {
+        self.step()
+    }
+}
+
+// All literals that are left, looked at one by one.
+pub(crate) fn check_literals(mut list: Literals) -> Result<LineKind, Refusal>
+    ensures { λ r. ⌜ r ≡ passed LineKind.Conflict (literals (end (list .entry .rest)) (left (list .entry .rest))) ⌝ }
+{
+    while let Some(_literal) = list.next()? {}
+    Ok(LineKind::Conflict)
 }
