@@ -1,1 +1,5 @@
 pub mod Cursors
+pub mod Blame
+pub mod Readers
+pub mod Lawful
+pub mod Reach

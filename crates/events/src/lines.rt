@@ -2,7 +2,9 @@
 ghost use mathlib.Core.Path.{_≡_};
 ghost use Rattle.words.specs.Left.{left, end};
 ghost use Rattle.events.specs.Lines.{integer, by-kind, event-of, line-kind};
+ghost use Rattle.events.specs.Laws.{Names, Steady, Reached};
 ghost use Rattle.events.specs.Shown.{read-of, shown, Kept};
+ghost use Rattle.events.specs.Worked.{Worked};
 use crate::keywords::line_kind;
 use crate::literals::check_literals;
 use crate::literals::named_literal;
@@ -63,9 +65,8 @@ fn begin_check<'a>(words: Words<'a>) -> Result<Event<'a>, Refusal>
     Ok(Event::BeginCheck { scope })
 }
 
-// What a line says, as far as it is read before a book is asked.
-pub fn read_event(line: &[u8]) -> Result<Event<'_>, Refusal>
-    ensures value { λ r. ⌜ shown r ≡ event-of (now (line .entry)) ⌝ }
+fn event<'a>(line: &'a [u8]) -> Result<Event<'a>, Refusal>
+    ensures { λ r. ⌜ shown r ≡ event-of (now (line .entry)) ⌝ }
 {
     let Some((word, rest)) = Words::of(line).next() else {
         return Ok(Event::Other);
@@ -83,11 +84,21 @@ pub fn read_event(line: &[u8]) -> Result<Event<'_>, Refusal>
     }
 }
 
-// The kind of a line, once all of it is read; no book is asked.
-pub fn check_line(line: &[u8], mode: Mode) -> Result<LineKind, Refusal>
-    ensures value { λ r. ⌜ r ≡ line-kind mode (now (line .entry)) ⌝ }
+// What a line says, as far as it is read before a book is asked.
+pub fn read_event(line: &[u8]) -> Result<Event<'_>, Refusal>
+    ensures value { λ r. ⌜ shown r ≡ event-of (now (line .entry)) ⌝ }
+    ensures names { λ r. ⌜ Names (now (line .entry)) (shown r) ⌝ }
+    ensures steady { λ _. ⌜ Steady event-of ⌝ }
+    ensures reached { λ _. ⌜ Reached ⌝ }
+    ensures worked { λ _. ⌜ Worked ⌝ }
 {
-    match read_event(line)? {
+    event(line)
+}
+
+fn kind(line: &[u8], mode: Mode) -> Result<LineKind, Refusal>
+    ensures { λ r. ⌜ r ≡ line-kind mode (now (line .entry)) ⌝ }
+{
+    match event(line)? {
         Event::Other => Ok(LineKind::Other),
         Event::Assign { rest, .. } => {
             read_reason(rest, mode)?;
@@ -99,4 +110,12 @@ pub fn check_line(line: &[u8], mode: Mode) -> Result<LineKind, Refusal>
         Event::Pop { .. } => Ok(LineKind::Pop),
         Event::BeginCheck { .. } => Ok(LineKind::BeginCheck),
     }
+}
+
+// The kind of a line, once all of it is read; no book is asked.
+pub fn check_line(line: &[u8], mode: Mode) -> Result<LineKind, Refusal>
+    ensures value { λ r. ⌜ r ≡ line-kind mode (now (line .entry)) ⌝ }
+    ensures steady { λ _. ⌜ Steady (line-kind mode) ⌝ }
+{
+    kind(line, mode)
 }

@@ -1,0 +1,91 @@
+-- Laws of reading a line, in words of the line.
+--   Steady read      a refusal is of the line's end, or blames a word: whatever follows that word, the refusal is the same
+--   Names line r     the words that an answer names are parts of the line, at the places told
+--   Reached          for each kind of event and all values that it may hold there is a line that gives it
+use mathlib.Core.Path.{_≡_}
+use mathlib.Core.Bool.{Bool, true, false}
+use mathlib.Core.List.{List, [], _∷_, _++_, map}
+use mathlib.Core.Logic.{_⊎_}
+use mir.Syntax.{w32}
+use mir.Val.{SFits}
+use Prim.Native.Nat.{ℕ, _^_, _<_}
+use lib.ListN.{length}
+use Rattle.std.specs.declared.result.Result.{Result}
+use Rattle.std.specs.declared.result.Result.the-variants.{Ok, Err}
+use Rattle.std.specs.shelf.Lists.{All}
+use Rattle.refusal.specs.Refusals.{place-of}
+use Rattle.refusal.specs.declared.refusals.Refusal.{Refusal}
+use Rattle.refusal.specs.declared.refusals.Refusal.the-variants as refusal
+use Rattle.words.specs.Words.{separator, starts, Placed, at, Stands}
+use Rattle.events.specs.declared.shapes.LiteralWord.the-variants as literal
+use Rattle.events.specs.declared.shapes.Mode.{Mode}
+use Rattle.events.specs.declared.shapes.Reason.{Reason}
+use Rattle.events.specs.declared.shapes.Reason.the-variants as reason
+use Rattle.events.specs.declared.shapes.SolverLiteral.{SolverLiteral}
+use Rattle.events.specs.declared.shapes.SolverLiteral.the-variants as lit
+use Rattle.events.specs.Keywords.{literal-word}
+use Rattle.events.specs.Lines.{Said, other, assign, decide-and-or, conflict, push, pop, begin-check, event-of}
+use Rattle.events.specs.Literals.{Named, valued, literals}
+use Rattle.events.specs.Reasons.{reason-of}
+
+-- the line is something, the word at fault, and what follows it
+pub record Blamed {A : Type 0} (read : List ℕ → Result A Refusal) (line : List ℕ) (r : Refusal) : Type 0 where
+  pub front : List ℕ
+  pub word : List ℕ
+  pub rest : List ℕ
+  pub whole : front ++ (word ++ rest) ≡ line
+  -- the place told is that of the word's first byte
+  pub place : length front ≡ place-of r
+  pub some : 0 < length word
+  pub plain : All (λ b. separator b ≡ false) word
+  pub apart : starts rest ≡ false
+  pub steady : (other : List ℕ) → starts other ≡ false → read (front ++ (word ++ other)) ≡ Err r
+
+abbrev pub Steady : {A : Type 0} → (List ℕ → Result A Refusal) → Type 0
+Steady read = (line : List ℕ) (r : Refusal) → read line ≡ Err r → (r ≡ refusal.UnexpectedNewline (length line)) ⊎ Blamed read line r
+
+abbrev pub Names : List ℕ → Result Said Refusal → Type 0
+Names line (Ok other) = Unit {0}
+Names line (Ok (assign n end ws)) = Stands 0 line (n .id) × All (Stands 0 line) ws
+Names line (Ok decide-and-or) = Unit {0}
+Names line (Ok (conflict end ws)) = All (Stands 0 line) ws
+Names line (Ok (push s)) = Unit {0}
+Names line (Ok (pop n s)) = Unit {0}
+Names line (Ok (begin-check s)) = Unit {0}
+Names line (Err e) = Unit {0}
+
+-- the ids that a named literal can have: words; after `(not` also the empty one
+abbrev pub Id : List ℕ → Bool → Type 0
+Id id true = All (λ b. separator b ≡ false) id × (0 < length id) × (literal-word id ≡ literal.Id)
+Id id false = All (λ b. separator b ≡ false) id
+
+-- the numbers that a reason can hold
+abbrev pub Numbered : SolverLiteral → Type 0
+Numbered (lit.Constant v) = Unit {0}
+Numbered (lit.Variable n v) = (0 < n) × (n < 2 ^ 32)
+
+abbrev pub Fits : Reason → Type 0
+Fits reason.Decision = Unit {0}
+Fits reason.Axiom = Unit {0}
+Fits (reason.Bin l) = Numbered l
+Fits (reason.Clause l) = Numbered l
+Fits (reason.Theory z) = SFits w32 z
+
+-- the ids and values of named literals, without their places
+abbrev pub unplaced : Named → List ℕ × Bool
+unplaced n = (n .id .letters, n .value)
+
+abbrev pub all-unplaced : Result (List Named) Refusal → Result (List (List ℕ × Bool)) Refusal
+all-unplaced (Ok ns) = Ok (map unplaced ns)
+all-unplaced (Err e) = Err e
+
+pub record Reached : Type 0 where
+  pub others : (line : List ℕ) × (event-of line ≡ Ok other)
+  pub assigns : (m : Mode) (id : List ℕ) (v : Bool) (r : Reason) → Id id v → Fits r
+    → (line : List ℕ) × (place : ℕ) × (end : ℕ) × (ws : List Placed) × (event-of line ≡ Ok (assign (valued (at place id) v) end ws)) × (reason-of m end ws ≡ Ok r)
+  pub decides : (line : List ℕ) × (event-of line ≡ Ok decide-and-or)
+  pub conflicts : (ls : List (List ℕ × Bool)) → All (λ l. Id (l .0) (l .1)) ls
+    → (line : List ℕ) × (end : ℕ) × (ws : List Placed) × (event-of line ≡ Ok (conflict end ws)) × (all-unplaced (literals end ws) ≡ Ok ls)
+  pub pushes : (s : ℕ) → s < 2 ^ 64 → (line : List ℕ) × (event-of line ≡ Ok (push s))
+  pub pops : (n s : ℕ) → 0 < n → n < 2 ^ 64 → s < 2 ^ 64 → (line : List ℕ) × (event-of line ≡ Ok (pop n s))
+  pub checks : (s : ℕ) → s < 2 ^ 64 → (line : List ℕ) × (event-of line ≡ Ok (begin-check s))
