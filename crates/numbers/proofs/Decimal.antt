@@ -1,8 +1,7 @@
 -- The decimal text of a number is read back as that number. Assumes nothing.
-use mathlib.Core.Path.{_≡_, refl, sym, ap, _∙_}
-use mathlib.Core.Bool.{true, cond, _&&_}
-use mathlib.Core.List.{List, [], _∷_}
-use Prim.Native.Nat.{ℕ, suc, _+_, _*_, _-_, _^_, _≤_, _<_}
+use mathlib.Core.Path.{_≡_, ap, _∙_}
+use mathlib.Core.Bool.{true}
+use Prim.Native.Nat.{ℕ, suc, _-_, _^_, _≤_, _<_}
 use native.Mathlib.Omega.{arith}
 use lib.Dec.{leb}
 use lib.IntN.{ℤ, pos, negsuc, negℤ}
@@ -10,26 +9,23 @@ use lib.ListN.{length, getD}
 use mir.Syntax.{w32}
 use mir.Val.{SFits}
 use borrow.Author.Needs.{needs}
-use borrow.Author.Tests.{le-leb, ne-eqb}
+use borrow.Author.Tests.{le-leb}
 use Rattle.std.specs.Options.{mapped}
-use Rattle.std.specs.Text.{In}
 use Rattle.std.specs.Written.{decimal, signed as written}
-use Rattle.std.specs.declared.option.Option.{Option}
-use Rattle.std.specs.declared.option.Option.the-variants.{Some, None}
+use Rattle.std.specs.declared.option.Option.the-variants.{Some}
 use Rattle.std.specs.shelf.Lists.{All}
 use Rattle.std.specs.shelf.Text.{allDigits}
 use Rattle.std.proofs.shelf.Decimals.{decimal-some, digits-decimal, value-decimal}
 use Rattle.std.proofs.shelf.Elements.{all-from-getD}
 use Rattle.std.proofs.shelf.Numerals.{Numerals, numerals-by-fold, tells-allDigits, digit-at}
 use Rattle.std.proofs.shelf.Tests.{and-from, cond-true}
-use Rattle.numbers.specs.Numeral.{value-after, digits-after, unsigned, numeral, signed}
-use Rattle.numbers.proofs.Values.{not-empty, numeral-plain, signed-plain}
+use Rattle.numbers.specs.Numeral.{value-after, unsigned, numeral, signed}
+use Rattle.numbers.proofs.Values.{not-empty, after-plus-none, signed-plain}
 
 -- `allDigits` and `value-after 0` are the shelf's digits and their value
 pub own : Numerals (λ ds. allDigits ds ≡ true) (value-after 0)
 own = numerals-by-fold _ tells-allDigits value-after (search needs)
 
--- each byte is a digit, and there is one
 pub decimal-digits : (n : ℕ) → n < 2 ^ 64 → allDigits (decimal n) ≡ true
 decimal-digits n h = digits-decimal own n h
 
@@ -39,6 +35,19 @@ decimal-at n i h lt = digit-at (decimal n) i (own .to (decimal n) (decimal-digit
 -- what holds of every digit holds of each byte
 pub decimal-all : (P : ℕ → Type 0) → ((c : ℕ) → 48 ≤ c → c ≤ 57 → P c) → (n : ℕ) → n < 2 ^ 64 → All P (decimal n)
 decimal-all P each n h = all-from-getD P (decimal n) 0 (λ i lt. let k = decimal-at n i h lt in each (getD (decimal n) i 0) (k .0) (k .1))
+
+-- a decimal text is not empty, and each byte is a digit
+pub decimal-word : (n : ℕ) → n < 2 ^ 64 → (0 < length (decimal n)) × All (λ c. (48 ≤ c) × (c ≤ 57)) (decimal n)
+decimal-word n h = (decimal-some n h, decimal-all (λ c. (48 ≤ c) × (c ≤ 57)) (λ c low high. (low, high)) n h)
+
+-- the same, where a minus sign may stand in front
+pub written-all : (P : ℕ → Type 0) → P 45 → ((c : ℕ) → 48 ≤ c → c ≤ 57 → P c) → (z : ℤ) → SFits w32 z → All P (written z)
+written-all P minus each (pos n) h = let lt : n < 2 ^ 31 = h .sfits in decimal-all P each n (omega arith)
+written-all P minus each (negsuc n) h = let lt : n < 2 ^ 31 = h .sfits in (minus, decimal-all P each (suc n) (omega arith))
+
+pub written-some : (z : ℤ) → SFits w32 z → 0 < length (written z)
+written-some (pos n) h = let lt : n < 2 ^ 31 = h .sfits in decimal-some n (omega arith)
+written-some (negsuc n) h = omega arith
 
 pub decimal-first : (n : ℕ) → n < 2 ^ 64 → (48 ≤ getD (decimal n) 0 0) × (getD (decimal n) 0 0 ≤ 57)
 decimal-first n h = decimal-at n 0 h (decimal-some n h)
@@ -54,7 +63,7 @@ unsigned-decimal limit n fits le =
 pub numeral-decimal : (limit n : ℕ) → limit < 2 ^ 64 → n ≤ limit → numeral limit (decimal n) ≡ Some n
 numeral-decimal limit n fits le =
     let first = decimal-first n (omega arith) in
-    numeral-plain limit (decimal n) (λ e. omega arith) ∙ unsigned-decimal limit n fits le
+    ap (unsigned limit) (after-plus-none (decimal n) (λ e. omega arith)) ∙ unsigned-decimal limit n fits le
 
 pub signed-written : (z : ℤ) → SFits w32 z → signed (written z) ≡ Some z
 signed-written (pos n) h =

@@ -9,11 +9,12 @@ use lib.IntN.{pos, negℤ}
 use lib.ListN.{length, getD, take, drop}
 use borrow.Author.Tests.{le-leb, lt-leb, eq-eqb, ne-eqb}
 use Rattle.std.proofs.shelf.Lists.{take-rest}
+use Rattle.std.proofs.shelf.Ways.{tells}
 use Rattle.std.specs.declared.option.Option.the-variants.{Some, None}
 use Rattle.std.specs.Options.{mapped}
 use Rattle.std.specs.Text.{asciiDigit}
 use Rattle.std.specs.shelf.Text.{allDigits}
-use Rattle.numbers.specs.Numeral.{value-after, digits-after, unsigned, numeral, signed}
+use Rattle.numbers.specs.Numeral.{value-after, digits-after, unsigned, after-plus, numeral, signed}
 
 value-ge : (n : ℕ) (cs : List ℕ) → n ≤ value-after n cs
 value-ge n [] = omega arith
@@ -46,10 +47,9 @@ unsigned-empty limit [] e = refl
 unsigned-empty limit (c ∷ cs) e = absurd (omega arith)
 
 -- a sign in front; the rest as `&text[1..]` has it
-pub numeral-plus : (limit : ℕ) (cs : List ℕ) → 0 < length cs → getD cs 0 0 ≡ 43 → numeral limit cs ≡ unsigned limit (take (length cs - 1) (drop 1 cs))
-numeral-plus limit [] some plus = absurd (omega arith)
-numeral-plus limit (c ∷ cs) some plus =
-    ap (λ t. cond t (unsigned limit cs) (unsigned limit (c ∷ cs))) (eq-eqb c 43 plus) ∙ ap (unsigned limit) (sym (take-rest (c ∷ cs) 1))
+pub after-plus-some : (cs : List ℕ) → 0 < length cs → getD cs 0 0 ≡ 43 → after-plus cs ≡ take (length cs - 1) (drop 1 cs)
+after-plus-some [] some plus = absurd (omega arith)
+after-plus-some (c ∷ cs) some plus = ap (λ t. cond t cs (c ∷ cs)) (eq-eqb c 43 plus) ∙ sym (take-rest (c ∷ cs) 1)
 
 pub signed-minus : (cs : List ℕ) → 0 < length cs → getD cs 0 0 ≡ 45 → signed cs ≡ mapped (λ n. negℤ (pos n)) (unsigned (2 ^ 31) (take (length cs - 1) (drop 1 cs)))
 signed-minus [] some minus = absurd (omega arith)
@@ -58,14 +58,15 @@ signed-minus (c ∷ cs) some minus =
     ∙ ap (λ ds. mapped (λ n. negℤ (pos n)) (unsigned (2 ^ 31) ds)) (sym (take-rest (c ∷ cs) 1))
 
 -- no sign in front
-pub numeral-plain : (limit : ℕ) (cs : List ℕ) → (getD cs 0 0 ≡ 43 → ⊥) → numeral limit cs ≡ unsigned limit cs
-numeral-plain limit [] bare = refl
-numeral-plain limit (c ∷ cs) bare = ap (λ t. cond t (unsigned limit cs) (unsigned limit (c ∷ cs))) (ne-eqb c 43 bare)
+pub after-plus-none : (cs : List ℕ) → (getD cs 0 0 ≡ 43 → ⊥) → after-plus cs ≡ cs
+after-plus-none [] bare = refl
+after-plus-none (c ∷ cs) bare = ap (λ t. cond t cs (c ∷ cs)) (ne-eqb c 43 bare)
 
 pub signed-plain : (cs : List ℕ) → (getD cs 0 0 ≡ 45 → ⊥) → signed cs ≡ mapped pos (numeral (2 ^ 31 - 1) cs)
 signed-plain [] bare = refl
 signed-plain (c ∷ cs) bare = ap (λ t. cond t (mapped (λ n. negℤ (pos n)) (unsigned (2 ^ 31) cs)) (mapped pos (numeral (2 ^ 31 - 1) (c ∷ cs)))) (ne-eqb c 45 bare)
 
-pub empty-first : (cs : List ℕ) (c : ℕ) → length cs ≡ 0 → 0 < c → getD cs 0 0 ≡ c → ⊥
-empty-first [] c e some first = omega arith
-empty-first (d ∷ ds) c e some first = omega arith
+-- what is read is the value of digits, within the limit
+pub unsigned-some : (limit : ℕ) (cs : List ℕ) (n : ℕ) → unsigned limit cs ≡ Some n → (allDigits cs ≡ true) × (0 < length cs) × (value-after 0 cs ≡ n) × (n ≤ limit)
+unsigned-some limit [] n e = let never : ⊥ = grind arith in absurd never
+unsigned-some limit (c ∷ cs) n e = (grind arith, omega arith, grind arith, grind (arith, tells))

@@ -2,7 +2,8 @@
 --   value-after n cs          the value of the digits cs after those of n
 --   digits-after limit n cs   that value, where cs are digits and it is within the limit
 --   unsigned limit cs         the number that one digit or more write, within the limit
---   numeral limit cs          the same, where one plus sign may stand in front
+--   after-plus cs             cs without the plus sign in front, if there is one
+--   numeral limit cs          the number that one digit or more write after at most one plus sign
 --   signed cs                 the number of 32 bits that digits write after at most one sign
 use mathlib.Core.Bool.{cond, _&&_}
 use mathlib.Core.List.{List, [], _∷_}
@@ -25,9 +26,12 @@ abbrev pub unsigned : ℕ → List ℕ → Option ℕ
 unsigned limit [] = None
 unsigned limit (c ∷ cs) = digits-after limit 0 (c ∷ cs)
 
+abbrev pub after-plus : List ℕ → List ℕ
+after-plus [] = []
+after-plus (c ∷ cs) = cond (eqb c 43) cs (c ∷ cs)
+
 abbrev pub numeral : ℕ → List ℕ → Option ℕ
-numeral limit [] = None
-numeral limit (c ∷ cs) = cond (eqb c 43) (unsigned limit cs) (unsigned limit (c ∷ cs))
+numeral limit cs = unsigned limit (after-plus cs)
 
 abbrev pub signed : List ℕ → Option ℤ
 signed [] = None

@@ -10,21 +10,17 @@ ghost use Rattle.std.specs.Numbers.{Checked};
 ghost use Rattle.std.specs.Options.{mapped};
 ghost use Rattle.std.specs.Written.{decimal, signed as written};
 ghost use Rattle.std.specs.declared.option.Option.the-variants.{Some};
-ghost use Rattle.numbers.specs.Numeral.{numeral, unsigned, signed};
+ghost use Rattle.numbers.specs.Numeral.{after-plus, numeral, unsigned, signed};
 
 // The number that the text writes, with at most one `+` in front.
 pub fn number(text: &[u8], limit: u64) -> Option<u64>
     ensures value { λ r. ⌜ r ≡ numeral limit (now (text .entry)) ⌝ }
     ensures laws { λ _. ⌜ ((n : ℕ) → n ≤ limit → numeral limit (decimal n) ≡ Some n) ⌝ }
 {
-    if !text.is_empty() && text[0] == b'+' {
-        digits(&text[1..], limit)
-    } else {
-        digits(text, limit)
-    }
+    digits(after_plus(text), limit)
 }
 
-// The same with no sign.
+// The number that the text writes, with no sign.
 pub fn digits(text: &[u8], limit: u64) -> Option<u64>
     ensures value { λ r. ⌜ r ≡ unsigned limit (now (text .entry)) ⌝ }
     ensures laws { λ _. ⌜ ((n : ℕ) → n ≤ limit → unsigned limit (decimal n) ≡ Some n) ⌝ }
@@ -41,6 +37,17 @@ pub fn digits(text: &[u8], limit: u64) -> Option<u64>
         }
     }
     if text.is_empty() { None } else { Some(value) }
+}
+
+// The text without one `+` in front.
+fn after_plus(text: &[u8]) -> &[u8]
+    ensures { λ r. ⌜ now r ≡ after-plus (now (text .entry)) ⌝ }
+{
+    if !text.is_empty() && text[0] == b'+' {
+        &text[1..]
+    } else {
+        text
+    }
 }
 
 // The value with one digit more, unless it is past the limit.

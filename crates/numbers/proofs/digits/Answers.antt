@@ -4,7 +4,7 @@ use Prim.Native.Nat.{ℕ, _+_, _*_, _-_, _<_}
 use native.Mathlib.Omega.{arith}
 use lib.ListN.{length, drop, getD}
 use borrow.Author.Tests.{false-eqb}
-use Rattle.std.proofs.shelf.Tests.{eqb-true}
+use borrow.Author.Needs.{needs}
 use Rattle.std.proofs.shelf.Lists.{at-drop-more, at-drop-all}
 use Rattle.numbers.specs.Numeral.{digits-after, unsigned}
 use Rattle.numbers.proofs.Decimal.{unsigned-decimal}
@@ -30,9 +30,7 @@ loop-b-again c =
     )
 
 pub returns-then-is-empty : need.returns-then-is-empty
-returns-then-is-empty c =
-    let none : length (c .args .text .now) ≡ 0 = eqb-true (length (c .args .text .now)) 0 (sym (c .if-is-empty .ensures tt)) in
-    record { value = sym (unsigned-empty (c .args .limit) (c .args .text .now) none); laws = λ n. unsigned-decimal (c .args .limit) n (c .fits .limit .fits) }
+returns-then-is-empty c = search (needs, unsigned-empty, unsigned-decimal)
 
 pub returns-then-not-is-ascii-digit : need.returns-then-not-is-ascii-digit
 returns-then-not-is-ascii-digit c =
