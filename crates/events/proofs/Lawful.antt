@@ -24,9 +24,9 @@ use Rattle.events.specs.declared.shapes.LiteralWord.{LiteralWord}
 use Rattle.events.specs.declared.shapes.LiteralWord.the-variants as literal
 use Rattle.events.specs.declared.shapes.Mode.{Mode}
 use Rattle.events.specs.Keywords.{kind-of, literal-word}
-use Rattle.events.specs.Laws.{Blamed, Steady, Names}
+use Rattle.events.specs.Laws.{Blamed, Steady, Names, Named-part}
 use Rattle.events.specs.Lines.{Said, push, pop, begin-check, integer, assigned, by-kind, said, event-of, finished, completed, line-kind}
-use Rattle.events.specs.Literals.{Read, and-then, valued, closed, begun-with, some-named, named}
+use Rattle.events.specs.Literals.{Read, and-then, Named, valued, closed, begun-with, some-named, named, next-of, next-literal}
 use Rattle.events.specs.Reasons.{ended}
 use Rattle.events.proofs.Blame.{Reader, Blames, Sure, Any}
 use Rattle.events.proofs.Readers.{going, line-sure, goes-event, goes-line}
@@ -83,20 +83,39 @@ module _ (line : List ℕ) where
   abbrev Part : Placed → Type 0
   Part = Stands 0 line
 
-  closed-named : (e : ℕ) (w : Placed) (ws : List Placed) (t : Bool) → Part w → All Part ws
-    → Names line (assigned e (some-named (and-then (closed (w .place) ws (cond t (Some (take (length (w .letters) - 1) (w .letters))) None)) (λ v rest. Ok (valued v false, rest)))))
-  closed-named e w ws true h hs = (front-stands line w (length (w .letters) - 1) (omega arith) h, hs)
-  closed-named e w ws false h hs = tt
+  -- a named literal and the words after it
+  abbrev Found : Result (Option (Named × List Placed)) Refusal → Type 0
+  Found (Ok None) = Unit {0}
+  Found (Ok (Some r)) = Part (r .0 .id) × All Part (r .1)
+  Found (Err e) = Unit {0}
 
-  begun-named : (k : LiteralWord) (e : ℕ) (w : Placed) (ws : List Placed) → Part w → All Part ws → Names line (assigned e (some-named (begun-with k e w ws)))
-  begun-named literal.Constant e w ws h hs = tt
-  begun-named literal.Not e w [] h hs = tt
-  begun-named literal.Not e w (v ∷ vs) h (g, gs) = closed-named e v vs (ltb 0 (length (v .letters)) && eqb (getD (v .letters) (length (v .letters) - 1) 0) 41) g gs
-  begun-named literal.Id e w ws h hs = (h, hs)
+  closed-found : (w : Placed) (ws : List Placed) (t : Bool) → Part w → All Part ws
+    → Found (some-named (and-then (closed (w .place) ws (cond t (Some (take (length (w .letters) - 1) (w .letters))) None)) (λ v rest. Ok (valued v false, rest))))
+  closed-found w ws true h hs = (front-stands line w (length (w .letters) - 1) (omega arith) h, hs)
+  closed-found w ws false h hs = tt
 
-  assign-named : (e : ℕ) (ws : List Placed) → All Part ws → Names line (assigned e (named e ws))
-  assign-named e [] hs = tt
-  assign-named e (w ∷ ws) (h, hs) = begun-named (literal-word (w .letters)) e w ws h hs
+  begun-found : (k : LiteralWord) (e : ℕ) (w : Placed) (ws : List Placed) → Part w → All Part ws → Found (some-named (begun-with k e w ws))
+  begun-found literal.Constant e w ws h hs = tt
+  begun-found literal.Not e w [] h hs = tt
+  begun-found literal.Not e w (v ∷ vs) h (g, gs) = closed-found v vs (ltb 0 (length (v .letters)) && eqb (getD (v .letters) (length (v .letters) - 1) 0) 41) g gs
+  begun-found literal.Id e w ws h hs = (h, hs)
+
+  named-found : (e : ℕ) (ws : List Placed) → All Part ws → Found (named e ws)
+  named-found e [] hs = tt
+  named-found e (w ∷ ws) (h, hs) = begun-found (literal-word (w .letters)) e w ws h hs
+
+  next-found : (ws : List Placed) (a : Result (Option (Named × List Placed)) Refusal) → Found a → Named-part line (next-of ws a .0)
+  next-found ws (Ok None) h = tt
+  next-found ws (Ok (Some r)) h = h .0
+  next-found ws (Err e) h = tt
+
+  pub next-named : (e : ℕ) (ws rest : List Placed) (r : Result (Option Named) Refusal) → All Part ws → (r, rest) ≡ next-literal e ws → Named-part line r
+  next-named e ws rest r hs is = subst (Named-part line) (sym (ap (λ p. p .0) is)) (next-found ws (named e ws) (named-found e ws hs))
+
+  assigned-named : (e : ℕ) (a : Result (Option (Named × List Placed)) Refusal) → Found a → Names line (assigned e a)
+  assigned-named e (Ok None) h = tt
+  assigned-named e (Ok (Some r)) h = h
+  assigned-named e (Err x) h = tt
 
   push-named : (b : Read ℕ) → Names line (and-then b (λ s rest. ended (push s) rest))
   push-named (Ok (s, [])) = tt
@@ -118,7 +137,7 @@ module _ (line : List ℕ) where
 
   kind-named : (k : LineKind) (e : ℕ) (ws : List Placed) → All Part ws → Names line (by-kind k e ws)
   kind-named kind.Other e ws hs = tt
-  kind-named kind.Assign e ws hs = assign-named e ws hs
+  kind-named kind.Assign e ws hs = assigned-named e (named e ws) (named-found e ws hs)
   kind-named kind.DecideAndOr e ws hs = tt
   kind-named kind.Conflict e ws hs = hs
   kind-named kind.Push e ws hs = push-named (integer 0 e ws)

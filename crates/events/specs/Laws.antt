@@ -1,6 +1,7 @@
 -- Laws of reading a line, in words of the line.
 --   Steady read      a refusal is of the line's end, or blames a word: whatever follows that word, the refusal is the same
 --   Names line r     the words that an answer names are parts of the line, at the places told
+--   Named-part       the same of a literal that the cursor gives
 --   Reached          for each kind of event and all values that it may hold there is a line that gives it
 use mathlib.Core.Path.{_≡_}
 use mathlib.Core.Bool.{Bool, true, false}
@@ -10,6 +11,8 @@ use mir.Syntax.{w32}
 use mir.Val.{SFits}
 use Prim.Native.Nat.{ℕ, _^_, _<_}
 use lib.ListN.{length}
+use Rattle.std.specs.declared.option.Option.{Option}
+use Rattle.std.specs.declared.option.Option.the-variants.{Some, None}
 use Rattle.std.specs.declared.result.Result.{Result}
 use Rattle.std.specs.declared.result.Result.the-variants.{Ok, Err}
 use Rattle.std.specs.shelf.Lists.{All}
@@ -53,6 +56,11 @@ Names line (Ok (push s)) = Unit {0}
 Names line (Ok (pop n s)) = Unit {0}
 Names line (Ok (begin-check s)) = Unit {0}
 Names line (Err e) = Unit {0}
+
+abbrev pub Named-part : List ℕ → Result (Option Named) Refusal → Type 0
+Named-part line (Ok None) = Unit {0}
+Named-part line (Ok (Some n)) = Stands 0 line (n .id)
+Named-part line (Err e) = Unit {0}
 
 -- the ids that a named literal can have: words; after `(not` also the empty one
 abbrev pub Id : List ℕ → Bool → Type 0

@@ -61,10 +61,10 @@ next-shown (Err e) = Err e
 
 -- the words left after a reading are of the same line
 abbrev pub Kept : {A : Type 0} → Words → Result (A × Words) Refusal → Type 0
-Kept w (Ok r) = end (r .1) ≡ end w
+Kept w (Ok r) = now (r .1 .line) ≡ now (w .line)
 Kept w (Err e) = Unit {0}
 
 abbrev pub Kept-named : Words → Result (Option (NamedLiteral × Words)) Refusal → Type 0
 Kept-named w (Ok None) = Unit {0}
-Kept-named w (Ok (Some r)) = end (r .1) ≡ end w
+Kept-named w (Ok (Some r)) = now (r .1 .line) ≡ now (w .line)
 Kept-named w (Err e) = Unit {0}

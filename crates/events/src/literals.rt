@@ -1,6 +1,7 @@
 // Literals, read from the words of a line.
 ghost use mathlib.Core.Path.{_≡_};
 ghost use Rattle.words.specs.Left.{left, end, word-of};
+ghost use Rattle.events.specs.Laws.{Named-part};
 ghost use Rattle.events.specs.Lines.{passed};
 ghost use Rattle.events.specs.Literals.{after-not, named, variable, bare, lettered, prefixed, solver, next-literal, literals, given, Shorter};
 ghost use Rattle.events.specs.Shown.{read-of, word-read, named-read, next-shown, Kept, Kept-named};
@@ -127,7 +128,7 @@ pub(crate) fn solver_literal<'a>(words: Words<'a>, mode: Mode) -> Result<(Solver
 impl<'a> Literals<'a> {
     fn step(&mut self) -> Result<Option<NamedLiteral<'a>>, Refusal>
         ensures value { λ r. ⌜ (next-shown r, left (now (self .exit) .rest)) ≡ next-literal (end (now (self .entry) .rest)) (left (now (self .entry) .rest)) ⌝ }
-        ensures same { λ _. ⌜ end (now (self .exit) .rest) ≡ end (now (self .entry) .rest) ⌝ }
+        ensures same { λ _. ⌜ now (now (self .exit) .rest .line) ≡ now (now (self .entry) .rest .line) ⌝ }
     {
         let Some((literal, rest)) = named_literal(self.rest)? else {
             return Ok(None);
@@ -139,8 +140,9 @@ impl<'a> Literals<'a> {
     // The next literal, or nothing at the line's end; at a fault the cursor stays.
     pub fn next(&mut self) -> Result<Option<NamedLiteral<'a>>, Refusal>
         ensures value { λ r. ⌜ (next-shown r, left (now (self .exit) .rest)) ≡ next-literal (end (now (self .entry) .rest)) (left (now (self .entry) .rest)) ⌝ }
-        ensures same { λ _. ⌜ end (now (self .exit) .rest) ≡ end (now (self .entry) .rest) ⌝ }
+        ensures same { λ _. ⌜ now (now (self .exit) .rest .line) ≡ now (now (self .entry) .rest .line) ⌝ }
         ensures laws { λ r. ⌜ literals (end (now (self .entry) .rest)) (left (now (self .entry) .rest)) ≡ given (next-shown r) (literals (end (now (self .entry) .rest)) (left (now (self .exit) .rest))) ⌝ }
+        ensures names { λ r. ⌜ Named-part (now (now (self .entry) .rest .line)) (next-shown r) ⌝ }
         ensures shorter { λ r. ⌜ Shorter (next-shown r) (left (now (self .exit) .rest)) (left (now (self .entry) .rest)) ⌝ }
     {
         self.step()

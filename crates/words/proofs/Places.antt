@@ -8,7 +8,7 @@ use native.Mathlib.Nat.{add-zero}
 use lib.ListN.{length, take, drop, getD}
 use Rattle.std.specs.shelf.Lists.{All}
 use borrow.Author.Needs.{needs}
-use Rattle.std.proofs.shelf.Lists.{length-append, append-nil, length-drop, take-append-drop, drop-at, same-lists, places}
+use Rattle.std.proofs.shelf.Lists.{length-append, append-nil, length-drop, take-append-drop, drop-at, drop-drop, same-lists, places}
 use Rattle.std.proofs.shelf.Elements.{all-weaker}
 use Rattle.std.proofs.shelf.Tests.{not-true, false≢true, cond-both}
 use Rattle.words.specs.Words.{separator, letter, Cut, Placed, at, starts, begun, words, Stands}
@@ -159,3 +159,12 @@ module _ (p : ℕ) (line text word rest : List ℕ) (is : text ≡ drop p line) 
 
 pub drop-min : (p : ℕ) (line : List ℕ) → drop (min p (length line)) line ≡ drop p line
 drop-min p line = same-lists _ _ (search (needs, places)) (λ k d h. grind (arith, places))
+
+-- each word that is left stands in the line
+from-start : (p : ℕ) (line : List ℕ) (w : Placed) → Stands p (drop p line) w → Stands 0 line w
+from-start p line w (above, part) =
+    let n : p + (w .place - p) ≡ w .place - 0 = omega arith in
+    (omega arith, ap (λ k. take (length (w .letters)) (drop k line)) (sym n) ∙ ap (take (length (w .letters))) (sym (drop-drop (w .place - p) p line)) ∙ part)
+
+pub left-stand : (p : ℕ) (line : List ℕ) → All (Stands 0 line) (words p (drop p line))
+left-stand p line = all-weaker (Stands p (drop p line)) (Stands 0 line) (from-start p line) (words p (drop p line)) (words-stand p (drop p line))

@@ -5,7 +5,7 @@ ghost use lib.ListN.{length};
 ghost use Rattle.std.specs.shelf.Lists.{All, leading};
 ghost use Rattle.std.specs.shelf.Text.{sameBytes};
 ghost use Rattle.words.specs.Words.{separator, letter, blanks, next-word, Cut, words, Stands};
-ghost use Rattle.words.specs.Left.{left, end, taken, Ends};
+ghost use Rattle.words.specs.Left.{left, end, taken, Ends, Part};
 
 mod rest;
 
@@ -73,6 +73,7 @@ impl<'a> Words<'a> {
     pub fn next(self) -> Option<(Word<'a>, Words<'a>)>
         ensures value { λ r. ⌜ taken r ≡ left (self .entry) ⌝ }
         ensures same { λ r. ⌜ Ends (self .entry) r ⌝ }
+        ensures parts { λ r. ⌜ Part (self .entry) r ⌝ }
     {
         let line = self.line;
         let (_, text) = line.split_at(self.place.min(line.len()));
