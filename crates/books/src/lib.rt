@@ -7,7 +7,6 @@ ghost use Prim.Native.Nat.{ℕ};
 ghost use denote.Ref.{now};
 ghost use Rattle.std.specs.declared.option.Option.{Option as Maybe};
 ghost use Rattle.books.specs.Terms.{shape, numbered, NumberedLaws, listed, ListedLaws};
-
 use words::same_bytes;
 
 pub trait Book {

@@ -32,7 +32,7 @@ reads-none c empty none = record {
 }
 
 pub reads-next : (c d : LogChecker) (whole text left : List ℕ) (g : Option Answer) → d .mode ≡ c .mode → most d ≡ most c → d .tally ≡ noted-after (c .tally) g
-  → record { given = g; at-hand = pending (d .reader); left = left } ≡ next-answer c text → Reads c whole text → Reads d whole left
+    → record { given = g; at-hand = pending (d .reader); left = left } ≡ next-answer c text → Reads c whole text → Reads d whole left
 reads-next c d whole text left g mode room after step h =
     let s = next-line (most c) (pending (c .reader)) text in
     let f = answer (c .mode) in
@@ -44,7 +44,7 @@ reads-next c d whole text left g mode room after step h =
       rest = λ more.
           let later = map f (due (most c) (s .at-hand) (s .left ++ more)) in
           let split-up : owed c (text ++ more) ≡ listOf g ++ later = ap (map f) (due-next (most c) (pending (c .reader)) text more)
-              ∙ map-append f (listOf (s .found)) (due (most c) (s .at-hand) (s .left ++ more)) ∙ ap (λ l. l ++ later) (map-listOf f (s .found) ∙ ap listOf (sym found)) in
+          ∙ map-append f (listOf (s .found)) (due (most c) (s .at-hand) (s .left ++ more)) ∙ ap (λ l. l ++ later) (map-listOf f (s .found) ∙ ap listOf (sym found)) in
           let same : later ≡ owed d (left ++ more) = λ i. map (answer (sym mode i)) (due (sym room i) (sym hand i) (sym over i ++ more)) in
           (λ i. answers (mode i) (room i) (whole ++ more)) ∙ h .rest more ∙ ap (λ l. h .given ++ l) (split-up ∙ ap (λ l. listOf g ++ l) same) ∙ sym (append-assoc (h .given) (listOf g) (owed d (left ++ more)));
       counts = after ∙ ap (λ t. noted-after t g) (h .counts) ∙ noted-all (h .given) g;

@@ -1,4 +1,5 @@
 // A log in pieces, line by line.
+ghost use mathlib.Core.Path.{_≡_};
 use crate::tally::Tally;
 use events::Mode;
 use pieces::LineReader;
@@ -8,4 +9,13 @@ pub struct LogChecker<'c> {
     pub(crate) reader: LineReader<'c>,
     pub(crate) mode: Mode,
     pub(crate) tally: Tally,
+}
+
+impl LogChecker<'_> {
+    // The lines so far.
+    pub fn tally(&self) -> Tally
+        ensures { λ r. ⌜ r ≡ now (self .entry) .tally ⌝ }
+    {
+        self.tally
+    }
 }

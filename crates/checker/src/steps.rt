@@ -18,17 +18,28 @@ use pieces::LineReader;
 use refusal::Refusal;
 
 impl<'c> LogChecker<'c> {
-    // A line may have as many bytes as the carry memory.
-    pub fn new(carry: &'c mut [u8], mode: Mode) -> Self
+    fn made(carry: &'c mut [u8], mode: Mode) -> Self
         ensures room { λ r. ⌜ most r ≡ length (now (carry .entry)) ⌝ }
         ensures mode { λ r. ⌜ r .mode ≡ mode ⌝ }
-        ensures reads { λ r. ⌜ Reads r [] [] ⌝ }
+        ensures tally { λ r. ⌜ r .tally ≡ tally-of [] ⌝ }
+        ensures empty { λ r. ⌜ pending (r .reader) ≡ kept [] ⌝ }
     {
         LogChecker {
             reader: LineReader::new(carry),
             mode,
             tally: Tally::new(),
         }
+    }
+
+    // A line may have as many bytes as the carry memory.
+    pub fn new(carry: &'c mut [u8], mode: Mode) -> Self
+        ensures room { λ r. ⌜ most r ≡ length (now (carry .entry)) ⌝ }
+        ensures mode { λ r. ⌜ r .mode ≡ mode ⌝ }
+        ensures tally { λ r. ⌜ r .tally ≡ tally-of [] ⌝ }
+        ensures empty { λ r. ⌜ pending (r .reader) ≡ kept [] ⌝ }
+        ensures reads { λ r. ⌜ Reads r [] [] ⌝ }
+    {
+        LogChecker::made(carry, mode)
     }
 
     // The answer to what the reader found.
@@ -100,11 +111,5 @@ impl<'c> LogChecker<'c> {
         ensures reads { λ _. ⌜ ((whole : List ℕ) → Reads (now (self .entry)) whole [] → now (self .exit) .tally ≡ tally-of (answers (now (self .entry) .mode) (most (now (self .entry))) whole)) ⌝ }
     {
         self.last()
-    }
-
-    pub fn tally(&self) -> Tally
-        ensures { λ r. ⌜ r ≡ now (self .entry) .tally ⌝ }
-    {
-        self.tally
     }
 }

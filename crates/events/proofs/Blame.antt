@@ -125,8 +125,8 @@ module _ {A B : Type 0} (f : Result A Refusal → Result B Refusal) (ok : (x : A
   kept-of : (e : ℕ) (ws : List Placed) (a : Result A Refusal) → Sure Any F e ws a → Sure Any (λ e ws. f (F e ws)) e ws (f a)
   kept-of e ws (Ok x) h = subst (Sure Any (λ e ws. f (F e ws)) e ws) (sym (ok x .1)) tt
   kept-of e ws (Err r) h =
-    subst (Sure Any (λ e ws. f (F e ws)) e ws) (sym (err r))
-    (⊎-elim inl (λ b. inr (record { before = b .before; word = b .word; after = b .after; whole = b .whole; place = b .place; steady = λ d other. ap f (b .steady d other) ∙ err r })) h)
+      subst (Sure Any (λ e ws. f (F e ws)) e ws) (sym (err r))
+      (⊎-elim inl (λ b. inr (record { before = b .before; word = b .word; after = b .after; whole = b .whole; place = b .place; steady = λ d other. ap f (b .steady d other) ∙ err r })) h)
 
   pub kept-any : (e : ℕ) (ws : List Placed) → Sure Any F e ws (F e ws) → Sure Any (λ e ws. f (F e ws)) e ws (f (F e ws))
   kept-any e ws h = kept-of e ws (F e ws) h
@@ -136,7 +136,7 @@ module _ {A B : Type 0} (F : Reader (A × List Placed)) (K : A → Reader B) (w 
   then-past-of : (e : ℕ) (ws : List Placed) (a : Result (A × List Placed) Refusal) → Sure-past Took F w e ws a → ((x : A) (rest : List Placed) → Sure Any (K x) e rest (K x e rest)) → Sure-past Any (both F K) w e ws (and-then a (λ x rest. K x e rest))
   then-past-of e ws (Ok x) t h = onward Any (both F K) w e ws (K (x .0) e (x .1)) (then-any-at F K e ws x t (K (x .0) e (x .1)) (h (x .0) (x .1)))
   then-past-of e ws (Err r) t h =
-    ⊎-elim (λ f. inl (f .0, λ d other. ap (λ a. and-then a (λ y rest. K y d rest)) (f .1 d other))) (λ k. inr (⊎-elim inl (λ b. inr (blames-both F K ws r b)) k)) t
+      ⊎-elim (λ f. inl (f .0, λ d other. ap (λ a. and-then a (λ y rest. K y d rest)) (f .1 d other))) (λ k. inr (⊎-elim inl (λ b. inr (blames-both F K ws r b)) k)) t
 
   pub then-past : (e : ℕ) (ws : List Placed) → Sure-past Took F w e ws (F e ws) → ((x : A) (rest : List Placed) → Sure Any (K x) e rest (K x e rest)) → Sure-past Any (both F K) w e ws (both F K e ws)
   then-past e ws t h = then-past-of e ws (F e ws) t h

@@ -37,20 +37,20 @@ module _ {X : Type 0} (F : Reader X) where
 
   blamed : (line : List ℕ) (r : Refusal) → Blames F (words 0 line) r → Blamed on-line line r
   blamed line r b =
-    let a = around (b .before) 0 line (b .word) (b .after) (sym (b .whole)) in
-    let text = λ (other : List ℕ). a .front ++ (b .word .letters ++ other) in
-    let p : length (a .front) ≡ b .word .place = omega (arith, a .place) in
-    record {
-      front = a .front;
-      word = b .word .letters;
-      rest = a .tail;
-      whole = a .whole;
-      place = p ∙ sym (b .place);
-      some = a .some;
-      plain = a .plain;
-      apart = a .apart;
-      steady = λ other h. ap (F (length (text other))) (a .again other h) ∙ b .steady (length (text other)) (words (b .word .place + length (b .word .letters)) other);
-    }
+      let a = around (b .before) 0 line (b .word) (b .after) (sym (b .whole)) in
+      let text = λ (other : List ℕ). a .front ++ (b .word .letters ++ other) in
+      let p : length (a .front) ≡ b .word .place = omega (arith, a .place) in
+      record {
+        front = a .front;
+        word = b .word .letters;
+        rest = a .tail;
+        whole = a .whole;
+        place = p ∙ sym (b .place);
+        some = a .some;
+        plain = a .plain;
+        apart = a .apart;
+        steady = λ other h. ap (F (length (text other))) (a .again other h) ∙ b .steady (length (text other)) (words (b .word .place + length (b .word .letters)) other);
+      }
 
   pub steady-line : ((e : ℕ) (ws : List Placed) → Sure Any F e ws (F e ws)) → Steady on-line
   steady-line sure line r is = ⊎-elim inl (λ b. inr (blamed line r b)) (subst (Sure Any F (length line) (words 0 line)) is (sure (length line) (words 0 line)))
@@ -90,7 +90,7 @@ module _ (line : List ℕ) where
   Found (Err e) = Unit {0}
 
   closed-found : (w : Placed) (ws : List Placed) (t : Bool) → Part w → All Part ws
-    → Found (some-named (and-then (closed (w .place) ws (cond t (Some (take (length (w .letters) - 1) (w .letters))) None)) (λ v rest. Ok (valued v false, rest))))
+      → Found (some-named (and-then (closed (w .place) ws (cond t (Some (take (length (w .letters) - 1) (w .letters))) None)) (λ v rest. Ok (valued v false, rest))))
   closed-found w ws true h hs = (front-stands line w (length (w .letters) - 1) (omega arith) h, hs)
   closed-found w ws false h hs = tt
 

@@ -105,27 +105,27 @@ module _ (n : ℕ) (some : 0 < n) (fits : n < 2 ^ 32) where
 
   number-read : (p : ℕ) (v : Bool) → numbered p v (numeral (2 ^ 32 - 1) (decimal n)) ≡ Ok (lit.Variable n v)
   number-read p v =
-    ap (numbered p v) (numeral-decimal (2 ^ 32 - 1) n (lit< tt) (omega arith)) ∙ ap (λ t. cond t (Err (refusal.InvalidBoolLiteral p)) (Ok (lit.Variable n v))) (ne-eqb n 0 (λ e. omega arith))
+      ap (numbered p v) (numeral-decimal (2 ^ 32 - 1) n (lit< tt) (omega arith)) ∙ ap (λ t. cond t (Err (refusal.InvalidBoolLiteral p)) (Ok (lit.Variable n v))) (ne-eqb n 0 (λ e. omega arith))
 
   first : (48 ≤ getD (decimal n) 0 0) × (getD (decimal n) 0 0 ≤ 57)
   first = decimal-first n wide
 
   variable-read : (m : Mode) (v : Bool) (e p : ℕ) → solver m e (placed p (variable-words m n v)) ≡ Ok (lit.Variable n v, [])
   variable-read mode.Bare true e p =
-    let w = decimal n in
-    let t : sameBytes w (codes "true") ≡ false = other-word w 116 _ (λ q. omega (arith, first)) in
-    let f : sameBytes w (codes "false") ≡ false = other-word w 102 _ (λ q. omega (arith, first)) in
-    (λ i. cond (t i) (Ok (lit.Constant true, [])) (cond (f i) (Ok (lit.Constant false, [])) (with-rest [] (signed-by p w (unprefixed 45 w)))))
-    ∙ ap (λ o. with-rest [] (signed-by p w o)) (no-prefix 45 w (λ q. omega (arith, first))) ∙ ap (with-rest []) (number-read p true)
+      let w = decimal n in
+      let t : sameBytes w (codes "true") ≡ false = other-word w 116 _ (λ q. omega (arith, first)) in
+      let f : sameBytes w (codes "false") ≡ false = other-word w 102 _ (λ q. omega (arith, first)) in
+      (λ i. cond (t i) (Ok (lit.Constant true, [])) (cond (f i) (Ok (lit.Constant false, [])) (with-rest [] (signed-by p w (unprefixed 45 w)))))
+      ∙ ap (λ o. with-rest [] (signed-by p w o)) (no-prefix 45 w (λ q. omega (arith, first))) ∙ ap (with-rest []) (number-read p true)
   variable-read mode.Bare false e p =
-    let w = 45 ∷ decimal n in
-    ap (λ o. with-rest [] (signed-by p w o)) (unprefixed-onto 45 (decimal n)) ∙ ap (with-rest []) (number-read p false)
+      let w = 45 ∷ decimal n in
+      ap (λ o. with-rest [] (signed-by p w o)) (unprefixed-onto 45 (decimal n)) ∙ ap (with-rest []) (number-read p false)
   variable-read mode.Prefixed true e p =
-    ap (λ o. with-rest [] (after-p p true o)) (unprefixed-onto 112 (decimal n)) ∙ ap (with-rest []) (number-read p true)
+      ap (λ o. with-rest [] (after-p p true o)) (unprefixed-onto 112 (decimal n)) ∙ ap (with-rest []) (number-read p true)
   variable-read mode.Prefixed false e p =
-    let q = p + length (codes "(not") + 1 in
-    ap (λ o. and-then (closed q [] o) (λ v rest. with-rest rest (after-p (v .place) false (unprefixed 112 (v .letters))))) (stripped-push 41 (112 ∷ decimal n))
-    ∙ ap (λ o. with-rest [] (after-p q false o)) (unprefixed-onto 112 (decimal n)) ∙ ap (with-rest []) (number-read q false)
+      let q = p + length (codes "(not") + 1 in
+      ap (λ o. and-then (closed q [] o) (λ v rest. with-rest rest (after-p (v .place) false (unprefixed 112 (v .letters))))) (stripped-push 41 (112 ∷ decimal n))
+      ∙ ap (λ o. with-rest [] (after-p q false o)) (unprefixed-onto 112 (decimal n)) ∙ ap (with-rest []) (number-read q false)
 
   variable-plain : (m : Mode) (v : Bool) → All One-word (variable-words m n v)
   variable-plain mode.Bare true = (decimal-word n wide, tt)
@@ -192,30 +192,36 @@ integer-read least n low h e p ws =
 pushed : (s : ℕ) → s < 2 ^ 64 → (line : List ℕ) × (event-of line ≡ Ok (push s))
 pushed s h =
     let ws : List (List ℕ) = codes "[push]" ∷ decimal s ∷ [] in
-    let e = length (spaced ws) in
-    (spaced ws, event-spaced ws ((lit< tt, plain-from (codes "[push]") refl), (decimal-word s h, tt))
-        ∙ ap (λ a. and-then a (λ s rest. ended (push s) rest)) (integer-read 0 s (omega arith) h e (0 + length (codes "[push]") + 1) []))
+    let e = length (spaced ws) in (
+      spaced ws,
+      event-spaced ws ((lit< tt, plain-from (codes "[push]") refl), (decimal-word s h, tt))
+          ∙ ap (λ a. and-then a (λ s rest. ended (push s) rest)) (integer-read 0 s (omega arith) h e (0 + length (codes "[push]") + 1) []),
+    )
 
 checked : (s : ℕ) → s < 2 ^ 64 → (line : List ℕ) × (event-of line ≡ Ok (begin-check s))
 checked s h =
     let ws : List (List ℕ) = codes "[begin-check]" ∷ decimal s ∷ [] in
-    let e = length (spaced ws) in
-    (spaced ws, event-spaced ws ((lit< tt, plain-from (codes "[begin-check]") refl), (decimal-word s h, tt))
-        ∙ ap (λ a. and-then a (λ s rest. Ok (begin-check s))) (integer-read 0 s (omega arith) h e (0 + length (codes "[begin-check]") + 1) []))
+    let e = length (spaced ws) in (
+      spaced ws,
+      event-spaced ws ((lit< tt, plain-from (codes "[begin-check]") refl), (decimal-word s h, tt))
+          ∙ ap (λ a. and-then a (λ s rest. Ok (begin-check s))) (integer-read 0 s (omega arith) h e (0 + length (codes "[begin-check]") + 1) []),
+    )
 
 popped : (n s : ℕ) → 0 < n → n < 2 ^ 64 → s < 2 ^ 64 → (line : List ℕ) × (event-of line ≡ Ok (pop n s))
 popped n s some h k =
     let ws : List (List ℕ) = codes "[pop]" ∷ decimal n ∷ decimal s ∷ [] in
     let e = length (spaced ws) in
     let p = 0 + length (codes "[pop]") + 1 in
-    let q = p + length (decimal n) + 1 in
-    (spaced ws, event-spaced ws ((lit< tt, plain-from (codes "[pop]") refl), (decimal-word n h, (decimal-word s k, tt)))
-        ∙ ap (λ a. and-then a (λ n rest. and-then (integer 0 e rest) (λ s more. ended (pop n s) more))) (integer-read 1 n (omega arith) h e p (at q (decimal s) ∷ []))
-        ∙ ap (λ a. and-then a (λ s more. ended (pop n s) more)) (integer-read 0 s (omega arith) k e q []))
+    let q = p + length (decimal n) + 1 in (
+      spaced ws,
+      event-spaced ws ((lit< tt, plain-from (codes "[pop]") refl), (decimal-word n h, (decimal-word s k, tt)))
+          ∙ ap (λ a. and-then a (λ n rest. and-then (integer 0 e rest) (λ s more. ended (pop n s) more))) (integer-read 1 n (omega arith) h e p (at q (decimal s) ∷ []))
+          ∙ ap (λ a. and-then a (λ s more. ended (pop n s) more)) (integer-read 0 s (omega arith) k e q []),
+    )
 
 -- an assign of any literal for any reason
 named-first : (id : List ℕ) (v : Bool) → Id id v → (e p : ℕ) (ws : List (List ℕ))
-  → (place : ℕ) × (q : ℕ) × (named e (placed p (named-words id v ws)) ≡ Ok (Some (valued (at place id) v, placed q ws)))
+    → (place : ℕ) × (q : ℕ) × (named e (placed p (named-words id v ws)) ≡ Ok (Some (valued (at place id) v, placed q ws)))
 named-first id true h e p ws =
     let q = p + length id + 1 in
     (p, q, ap (λ k. some-named (begun-with k e (at p id) (placed q ws))) (h .2))
@@ -225,16 +231,20 @@ named-first id false h e p ws =
     (place, q, ap (λ o. some-named (and-then (closed place (placed q ws) o) (λ v rest. Ok (valued v false, rest)))) (stripped-push 41 id))
 
 assigns : (m : Mode) (id : List ℕ) (v : Bool) (r : Reason) → Id id v → Fits r
-  → (line : List ℕ) × (place : ℕ) × (end : ℕ) × (ws : List Placed) × (event-of line ≡ Ok (assign (valued (at place id) v) end ws)) × (reason-of m end ws ≡ Ok r)
+    → (line : List ℕ) × (place : ℕ) × (end : ℕ) × (ws : List Placed) × (event-of line ≡ Ok (assign (valued (at place id) v) end ws)) × (reason-of m end ws ≡ Ok r)
 assigns m id v r h f =
     let why = reason-words m r in
     let ws = codes "[assign]" ∷ named-words id v why in
     let e = length (spaced ws) in
     let p = 0 + length (codes "[assign]") + 1 in
-    let one = named-first id v h e p why in
-    (spaced ws, one .0, e, placed (one .1) why,
-        event-spaced ws ((lit< tt, plain-from (codes "[assign]") refl), named-plain id v why h (reason-plain m r f)) ∙ ap (assigned e) (one .2),
-        reason-read m r f e (one .1))
+    let one = named-first id v h e p why in (
+      spaced ws,
+      one .0,
+      e,
+      placed (one .1) why,
+      event-spaced ws ((lit< tt, plain-from (codes "[assign]") refl), named-plain id v why h (reason-plain m r f)) ∙ ap (assigned e) (one .2),
+      reason-read m r f e (one .1),
+    )
 
 -- a conflict of any named literals
 abbrev cut-words : List (List ℕ × Bool) → List (List ℕ)
@@ -261,7 +271,7 @@ cut-read ((id, false) ∷ ls) (k, h) e p =
     ap (λ o. all-unplaced (closing place o (literals e ws))) (stripped-push 41 id) ∙ consed-unplaced (valued (at place id) false) (literals e ws) ls (cut-read ls h e q)
 
 conflicts : (ls : List (List ℕ × Bool)) → All (λ l. Id (l .0) (l .1)) ls
-  → (line : List ℕ) × (end : ℕ) × (ws : List Placed) × (event-of line ≡ Ok (conflict end ws)) × (all-unplaced (literals end ws) ≡ Ok ls)
+    → (line : List ℕ) × (end : ℕ) × (ws : List Placed) × (event-of line ≡ Ok (conflict end ws)) × (all-unplaced (literals end ws) ≡ Ok ls)
 conflicts ls h =
     let ws = codes "[conflict]" ∷ cut-words ls in
     let e = length (spaced ws) in

@@ -149,13 +149,13 @@ consed-past n w e ws h =
     onward Any (λ e ws. consed n (literals-after false e ws)) w e ws (consed n (literals-after false e ws)) (kept-any (consed n) (λ ns. (n ∷ ns, refl)) (λ r. refl) (literals-after false) e ws h)
 
 led-past : (k : LiteralWord) (w : Placed) (e : ℕ) (ws : List Placed) → Sure Any (literals-after true) e ws (literals-after true e ws) → Sure Any (literals-after false) e ws (literals-after false e ws)
-  → Sure-past Any (λ e ws. led k w (literals-after true e ws) (literals-after false e ws)) w e ws (led k w (literals-after true e ws) (literals-after false e ws))
+    → Sure-past Any (λ e ws. led k w (literals-after true e ws) (literals-after false e ws)) w e ws (led k w (literals-after true e ws) (literals-after false e ws))
 led-past literal.Constant w e ws g h = refused-past Any w e ws (refusal.BoolLiteral (w .place)) refl
 led-past literal.Not w e ws g h = onward Any (literals-after true) w e ws (literals-after true e ws) g
 led-past literal.Id w e ws g h = consed-past (valued w true) w e ws h
 
 closing-past : (o : Option (List ℕ)) (w : Placed) (e : ℕ) (ws : List Placed) → Sure Any (literals-after false) e ws (literals-after false e ws)
-  → Sure-past Any (λ e ws. closing (w .place) o (literals-after false e ws)) w e ws (closing (w .place) o (literals-after false e ws))
+    → Sure-past Any (λ e ws. closing (w .place) o (literals-after false e ws)) w e ws (closing (w .place) o (literals-after false e ws))
 closing-past None w e ws h = refused-past Any w e ws (refusal.TupleMissingParens (w .place)) refl
 closing-past (Some v) w e ws h = consed-past (valued (at (w .place) v) false) w e ws h
 
@@ -206,17 +206,17 @@ module _ {X : Type 0} (g : Said → Result X Refusal) (goes : Goes g) where
   assign-sure : (e : ℕ) (ws : List Placed) → Sure Any (λ e ws. going g (assigned e (named e ws))) e ws (going g (assigned e (named e ws)))
   assign-sure e [] = inl refl
   assign-sure e (w ∷ ws) =
-    let k = literal-word (w .letters) in
-    headed-any (λ e ws. going g (assigned e (named e ws))) w e ws (going g (assigned e (named e (w ∷ ws))))
-    (equal-past (λ e ws. and-then (begun-with k e w ws) (λ n rest. g (assign n e rest))) (λ e ws. going g (assigned e (some-named (begun-with k e w ws)))) (λ e ws. assigned-is e (begun-with k e w ws)) w e ws
-    (then-past (λ e ws. begun-with k e w ws) (λ n e rest. g (assign n e rest)) w e ws (begun-past k w e ws) (λ n rest. goes .assigns n e rest)))
+      let k = literal-word (w .letters) in
+      headed-any (λ e ws. going g (assigned e (named e ws))) w e ws (going g (assigned e (named e (w ∷ ws))))
+      (equal-past (λ e ws. and-then (begun-with k e w ws) (λ n rest. g (assign n e rest))) (λ e ws. going g (assigned e (some-named (begun-with k e w ws)))) (λ e ws. assigned-is e (begun-with k e w ws)) w e ws
+      (then-past (λ e ws. begun-with k e w ws) (λ n e rest. g (assign n e rest)) w e ws (begun-past k w e ws) (λ n rest. goes .assigns n e rest)))
 
   -- a number, and then the rest
   number-sure : (least : ℕ) (K : ℕ → Reader Said) → ((s e : ℕ) (rest : List Placed) → Sure Any (λ e ws. going g (K s e ws)) e rest (going g (K s e rest))) → (e : ℕ) (ws : List Placed)
-    → Sure Any (λ e ws. going g (and-then (integer least e ws) (λ s rest. K s e rest))) e ws (going g (and-then (integer least e ws) (λ s rest. K s e rest)))
+      → Sure Any (λ e ws. going g (and-then (integer least e ws) (λ s rest. K s e rest))) e ws (going g (and-then (integer least e ws) (λ s rest. K s e rest)))
   number-sure least K h e ws =
-    equal-sure (λ e ws. and-then (integer least e ws) (λ s rest. going g (K s e rest))) (λ e ws. going g (and-then (integer least e ws) (λ s rest. K s e rest))) (λ e ws. going-then (integer least e ws) (λ s rest. K s e rest)) e ws
-    (then-any (integer least) (λ s e rest. going g (K s e rest)) e ws (integer-sure least e ws) (λ s rest. h s e rest))
+      equal-sure (λ e ws. and-then (integer least e ws) (λ s rest. going g (K s e rest))) (λ e ws. going g (and-then (integer least e ws) (λ s rest. K s e rest))) (λ e ws. going-then (integer least e ws) (λ s rest. K s e rest)) e ws
+      (then-any (integer least) (λ s e rest. going g (K s e rest)) e ws (integer-sure least e ws) (λ s rest. h s e rest))
 
   kind-sure : (k : LineKind) (e : ℕ) (ws : List Placed) → Sure Any (λ e ws. going g (by-kind k e ws)) e ws (going g (by-kind k e ws))
   kind-sure kind.Other e ws = fine other e ws (goes .other)
@@ -225,14 +225,14 @@ module _ {X : Type 0} (g : Said → Result X Refusal) (goes : Goes g) where
   kind-sure kind.Conflict e ws = goes .conflicts e ws
   kind-sure kind.Push e ws = number-sure 0 (λ s e rest. ended (push s) rest) (λ s. ends (push s) (goes .pushes s)) e ws
   kind-sure kind.Pop e ws =
-    number-sure 1 (λ n e rest. and-then (integer 0 e rest) (λ s more. ended (pop n s) more)) (λ n. number-sure 0 (λ s e more. ended (pop n s) more) (λ s. ends (pop n s) (goes .pops n s))) e ws
+      number-sure 1 (λ n e rest. and-then (integer 0 e rest) (λ s more. ended (pop n s) more)) (λ n. number-sure 0 (λ s e more. ended (pop n s) more) (λ s. ends (pop n s) (goes .pops n s))) e ws
   kind-sure kind.BeginCheck e ws = number-sure 0 (λ s e rest. Ok (begin-check s)) (λ s d rest. fine (begin-check s) d rest (goes .checks s)) e ws
 
   pub line-sure : (e : ℕ) (ws : List Placed) → Sure Any (λ e ws. going g (said e ws)) e ws (going g (said e ws))
   line-sure e [] = subst (Sure Any (λ e ws. going g (said e ws)) e []) (sym (goes .other .1)) tt
   line-sure e (w ∷ ws) =
-    headed-any (λ e ws. going g (said e ws)) w e ws (going g (said e (w ∷ ws)))
-    (onward Any (λ e ws. going g (by-kind (kind-of (w .letters)) e ws)) w e ws (going g (by-kind (kind-of (w .letters)) e ws)) (kind-sure (kind-of (w .letters)) e ws))
+      headed-any (λ e ws. going g (said e ws)) w e ws (going g (said e (w ∷ ws)))
+      (onward Any (λ e ws. going g (by-kind (kind-of (w .letters)) e ws)) w e ws (going g (by-kind (kind-of (w .letters)) e ws)) (kind-sure (kind-of (w .letters)) e ws))
 
 pub goes-event : Goes {X = Said} Ok
 goes-event = record {

@@ -90,10 +90,10 @@ all-unplaced (Err e) = Err e
 pub record Reached : Type 0 where
   pub others : (line : List ℕ) × (event-of line ≡ Ok other)
   pub assigns : (m : Mode) (id : List ℕ) (v : Bool) (r : Reason) → Id id v → Fits r
-    → (line : List ℕ) × (place : ℕ) × (end : ℕ) × (ws : List Placed) × (event-of line ≡ Ok (assign (valued (at place id) v) end ws)) × (reason-of m end ws ≡ Ok r)
+      → (line : List ℕ) × (place : ℕ) × (end : ℕ) × (ws : List Placed) × (event-of line ≡ Ok (assign (valued (at place id) v) end ws)) × (reason-of m end ws ≡ Ok r)
   pub decides : (line : List ℕ) × (event-of line ≡ Ok decide-and-or)
   pub conflicts : (ls : List (List ℕ × Bool)) → All (λ l. Id (l .0) (l .1)) ls
-    → (line : List ℕ) × (end : ℕ) × (ws : List Placed) × (event-of line ≡ Ok (conflict end ws)) × (all-unplaced (literals end ws) ≡ Ok ls)
+      → (line : List ℕ) × (end : ℕ) × (ws : List Placed) × (event-of line ≡ Ok (conflict end ws)) × (all-unplaced (literals end ws) ≡ Ok ls)
   pub pushes : (s : ℕ) → s < 2 ^ 64 → (line : List ℕ) × (event-of line ≡ Ok (push s))
   pub pops : (n s : ℕ) → 0 < n → n < 2 ^ 64 → s < 2 ^ 64 → (line : List ℕ) × (event-of line ≡ Ok (pop n s))
   pub checks : (s : ℕ) → s < 2 ^ 64 → (line : List ℕ) × (event-of line ≡ Ok (begin-check s))

@@ -1,7 +1,7 @@
 // What the lines of a trace say.
 mod keywords;
-mod literals;
 mod lines;
+mod literals;
 mod reasons;
 mod shapes;
 

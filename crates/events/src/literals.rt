@@ -36,7 +36,9 @@ fn closed_word<'a>(words: Words<'a>) -> Result<(Word<'a>, Words<'a>), Refusal>
 }
 
 // The next named literal and the words after it, or nothing where no word is left.
-pub(crate) fn named_literal<'a>(words: Words<'a>) -> Result<Option<(NamedLiteral<'a>, Words<'a>)>, Refusal>
+pub(crate) fn named_literal<'a>(
+    words: Words<'a>,
+) -> Result<Option<(NamedLiteral<'a>, Words<'a>)>, Refusal>
     ensures value { λ r. ⌜ named-read r ≡ named (end (words .entry)) (left (words .entry)) ⌝ }
     ensures same { λ r. ⌜ Kept-named (words .entry) r ⌝ }
 {
@@ -96,7 +98,10 @@ fn lettered_literal(word: Word, value: bool) -> Result<SolverLiteral, Refusal>
     variable(digits, value, word.place)
 }
 
-fn prefixed_literal<'a>(word: Word<'a>, rest: Words<'a>) -> Result<(SolverLiteral, Words<'a>), Refusal>
+fn prefixed_literal<'a>(
+    word: Word<'a>,
+    rest: Words<'a>,
+) -> Result<(SolverLiteral, Words<'a>), Refusal>
     ensures { λ r. ⌜ read-of r ≡ prefixed (end (rest .entry)) (word-of (word .entry)) (left (rest .entry)) ⌝ }
 {
     if !same_bytes(word.letters, b"(not") {
@@ -107,7 +112,10 @@ fn prefixed_literal<'a>(word: Word<'a>, rest: Words<'a>) -> Result<(SolverLitera
 }
 
 // The next solver literal and the words after it.
-pub(crate) fn solver_literal<'a>(words: Words<'a>, mode: Mode) -> Result<(SolverLiteral, Words<'a>), Refusal>
+pub(crate) fn solver_literal<'a>(
+    words: Words<'a>,
+    mode: Mode,
+) -> Result<(SolverLiteral, Words<'a>), Refusal>
     ensures { λ r. ⌜ read-of r ≡ solver mode (end (words .entry)) (left (words .entry)) ⌝ }
 {
     let Some((word, rest)) = words.next() else {

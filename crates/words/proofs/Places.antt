@@ -2,6 +2,7 @@
 use mathlib.Core.Path.{_≡_, refl, sym, ap, subst, _∙_}
 use mathlib.Core.Bool.{Bool, true, false, cond, not}
 use mathlib.Core.List.{List, [], _∷_, _++_, append-assoc}
+use mathlib.Core.Logic.{⊎-elim}
 use Prim.Native.Nat.{ℕ, suc, min, _+_, _-_, _<_, _≤_}
 use native.Mathlib.Omega.{arith}
 use native.Mathlib.Nat.{add-zero}
@@ -10,8 +11,8 @@ use Rattle.std.specs.shelf.Lists.{All}
 use borrow.Author.Needs.{needs}
 use Rattle.std.proofs.shelf.Lists.{length-append, append-nil, length-drop, take-append-drop, drop-at, drop-drop, same-lists, places}
 use Rattle.std.proofs.shelf.Elements.{all-weaker}
-use Rattle.std.proofs.shelf.Tests.{not-true, false≢true, cond-both}
-use Rattle.words.specs.Words.{separator, letter, Cut, Placed, at, starts, begun, words, Stands}
+use Rattle.std.proofs.shelf.Tests.{not-true, false≢true, cond-both, eq-eqb, ne-eqb, cases-lt}
+use Rattle.words.specs.Words.{separator, letter, Cut, Placed, at, starts, begun, words, words-by, Stands}
 
 abbrev pub Blank : List ℕ → Type 0
 Blank = All (λ b. separator b ≡ true)
@@ -39,7 +40,7 @@ word-passed p c (d ∷ ds) rest (e, (f, h)) s =
 
 -- separators, a word and a rest
 pub next-passed : (p : ℕ) (gap word rest : List ℕ) → Blank gap → Plain word → 0 < length word → starts rest ≡ false
-  → words p (gap ++ (word ++ rest)) ≡ at (p + length gap) word ∷ words (p + length gap + length word) rest
+    → words p (gap ++ (word ++ rest)) ≡ at (p + length gap) word ∷ words (p + length gap + length word) rest
 next-passed p gap [] rest b h some s = absurd (omega arith)
 next-passed p gap (c ∷ cs) rest b h some s = gap-passed p gap ((c ∷ cs) ++ rest) b ∙ word-passed (p + length gap) c cs rest h s
 
@@ -54,9 +55,9 @@ starts-none (b ∷ bs) h = ap not (h (omega arith))
 module _ (p : ℕ) (line word rest : List ℕ) (cut : Cut line word rest) where
   pub cut-none : length word ≡ 0 → words p line ≡ []
   cut-none none =
-    let gap = cut .whole .0 in
-    let empty = cut .none none in
-    ap (words p) (sym (cut .whole .2)) ∙ gap-passed p gap (word ++ rest) (cut .whole .1) ∙ ap (λ t. words (p + length gap) (word ++ t)) empty ∙ nil word none
+      let gap = cut .whole .0 in
+      let empty = cut .none none in
+      ap (words p) (sym (cut .whole .2)) ∙ gap-passed p gap (word ++ rest) (cut .whole .1) ∙ ap (λ t. words (p + length gap) (word ++ t)) empty ∙ nil word none
     where
       nil : (w : List ℕ) → length w ≡ 0 → words (p + length (cut .whole .0)) (w ++ []) ≡ []
       nil [] e = refl
@@ -64,14 +65,14 @@ module _ (p : ℕ) (line word rest : List ℕ) (cut : Cut line word rest) where
 
   pub cut-some : 0 < length word → words p line ≡ at (p + length line - length rest - length word) word ∷ words (p + length line - length rest) rest
   cut-some some =
-    let gap = cut .whole .0 in
-    let long = ap length (cut .whole .2) in
-    let inner = length-append gap (word ++ rest) in
-    let outer = length-append word rest in
-    let m : p + length gap ≡ p + length line - length rest - length word = omega arith in
-    let n : p + length gap + length word ≡ p + length line - length rest = omega arith in
-    ap (words p) (sym (cut .whole .2)) ∙ next-passed p gap word rest (cut .whole .1) (cut .plain) some (starts-none rest (cut .stops))
-    ∙ (λ i. at (m i) word ∷ words (n i) rest)
+      let gap = cut .whole .0 in
+      let long = ap length (cut .whole .2) in
+      let inner = length-append gap (word ++ rest) in
+      let outer = length-append word rest in
+      let m : p + length gap ≡ p + length line - length rest - length word = omega arith in
+      let n : p + length gap + length word ≡ p + length line - length rest = omega arith in
+      ap (words p) (sym (cut .whole .2)) ∙ next-passed p gap word rest (cut .whole .1) (cut .plain) some (starts-none rest (cut .stops))
+      ∙ (λ i. at (m i) word ∷ words (n i) rest)
 
 -- the first word of a text that begins with it
 record First (p : ℕ) (text : List ℕ) : Type 0 where
@@ -136,7 +137,7 @@ words-plain p (b ∷ bs) =
 
 -- the words left of a line from place p on, by the next word of what is left
 module _ (p : ℕ) (line text word rest : List ℕ) (is : text ≡ drop p line) (cut : Cut text word rest) where
-  pub left-none : length word ≡ 0 → [] ≡ words p (drop p line)
+  left-none : length word ≡ 0 → [] ≡ words p (drop p line)
   left-none none = sym (cut-none p text word rest cut none) ∙ ap (words p) is
 
   long : length text ≡ length (cut .whole .0) + (length word + length rest)
@@ -147,15 +148,22 @@ module _ (p : ℕ) (line text word rest : List ℕ) (is : text ≡ drop p line) 
 
   rest-is : drop (length line - length rest) line ≡ rest
   rest-is =
-    let front = take p line ++ (cut .whole .0 ++ word) in
-    let whole : front ++ rest ≡ line = append-assoc (take p line) (cut .whole .0 ++ word) rest ∙ ap (λ t. take p line ++ t) (append-assoc (cut .whole .0) word rest ∙ cut .whole .2 ∙ is) ∙ take-append-drop p line in
-    let n : length front ≡ length line - length rest = omega (arith, ap length whole, length-append front rest) in
-    ap (drop (length line - length rest)) (sym whole) ∙ drop-at front rest (length line - length rest) n
+      let front = take p line ++ (cut .whole .0 ++ word) in
+      let whole : front ++ rest ≡ line = append-assoc (take p line) (cut .whole .0 ++ word) rest ∙ ap (λ t. take p line ++ t) (append-assoc (cut .whole .0) word rest ∙ cut .whole .2 ∙ is) ∙ take-append-drop p line in
+      let n : length front ≡ length line - length rest = omega (arith, ap length whole, length-append front rest) in
+      ap (drop (length line - length rest)) (sym whole) ∙ drop-at front rest (length line - length rest) n
 
-  pub left-some : 0 < length word → at (length line - length rest - length word) word ∷ words (length line - length rest) (drop (length line - length rest) line) ≡ words p (drop p line)
+  left-some : 0 < length word → at (length line - length rest - length word) word ∷ words (length line - length rest) (drop (length line - length rest) line) ≡ words p (drop p line)
   left-some some =
-    let m : p + length text - length rest ≡ length line - length rest = omega (arith, long, ap length is, length-drop p line) in
-    sym (ap (words p) (sym is) ∙ cut-some p text word rest cut some ∙ (λ i. at (m i - length word) word ∷ words (m i) (sym rest-is i)))
+      let m : p + length text - length rest ≡ length line - length rest = omega (arith, long, ap length is, length-drop p line) in
+      sym (ap (words p) (sym is) ∙ cut-some p text word rest cut some ∙ (λ i. at (m i - length word) word ∷ words (m i) (sym rest-is i)))
+
+  pub left-by : words-by line word (length line - length rest) ≡ words p (drop p line)
+  left-by =
+      ⊎-elim
+      (λ some. ap (λ t. cond t [] (at (length line - length rest - length word) word ∷ words (length line - length rest) (drop (length line - length rest) line))) (ne-eqb (length word) 0 (λ e. omega arith)) ∙ left-some some)
+      (λ h. let none : length word ≡ 0 = omega arith in ap (λ t. cond t [] (at (length line - length rest - length word) word ∷ words (length line - length rest) (drop (length line - length rest) line))) (eq-eqb (length word) 0 none) ∙ left-none none)
+      (cases-lt 0 (length word))
 
 pub drop-min : (p : ℕ) (line : List ℕ) → drop (min p (length line)) line ≡ drop p line
 drop-min p line = same-lists _ _ (search (needs, places)) (λ k d h. grind (arith, places))

@@ -58,5 +58,9 @@ abbrev pub words : ℕ → List ℕ → List Placed
 words p [] = []
 words p (b ∷ bs) = cond (separator b) (words (suc p) bs) (begun p b (starts bs) (words (suc p) bs))
 
+-- the words of a line from a place on, by the next one, which is empty where none is left, and the place after it
+abbrev pub words-by : List ℕ → List ℕ → ℕ → List Placed
+words-by line word after = cond (eqb (length word) 0) [] (at (after - length word) word ∷ words after (drop after line))
+
 abbrev pub Stands : ℕ → List ℕ → Placed → Type 0
 Stands p text w = (p ≤ w .place) × (take (length (w .letters)) (drop (w .place - p) text) ≡ w .letters)

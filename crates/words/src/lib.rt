@@ -1,10 +1,10 @@
 // The words of a line: runs of bytes between separators.
 ghost use mathlib.Core.Path.{_≡_};
-ghost use Prim.Native.Nat.{_+_};
-ghost use lib.ListN.{length};
+ghost use Prim.Native.Nat.{_≤_};
+ghost use lib.ListN.{length, drop};
 ghost use Rattle.std.specs.shelf.Lists.{All, leading};
 ghost use Rattle.std.specs.shelf.Text.{sameBytes};
-ghost use Rattle.words.specs.Words.{separator, letter, blanks, next-word, Cut, words, Stands};
+ghost use Rattle.words.specs.Words.{separator, letter, blanks, next-word, Cut, words, words-by, Stands};
 ghost use Rattle.words.specs.Left.{left, end, taken, Ends, Part};
 
 mod rest;
@@ -56,17 +56,24 @@ pub fn next_word(line: &[u8]) -> (&[u8], &[u8])
     text.split_at(word_len(text))
 }
 
+// The next word of a line from a place on, and the place after it.
+fn word_from(line: &[u8], place: usize) -> (&[u8], usize)
+    ensures value { λ r. ⌜ words-by (now (line .entry)) (now (r .0)) (r .1) ≡ words place (drop place (now (line .entry))) ⌝ }
+    ensures within { λ r. ⌜ length (now (r .0)) ≤ r .1 ⌝ }
+    ensures parts { λ _. ⌜ All (Stands 0 (now (line .entry))) (words place (drop place (now (line .entry)))) ⌝ }
+{
+    let (_, text) = line.split_at(place.min(line.len()));
+    let (letters, rest) = next_word(text);
+    (letters, line.len() - rest.len())
+}
+
 impl<'a> Words<'a> {
-    // All words of a line; each is a part of it at its place.
+    // All words of a line.
     pub fn of(line: &'a [u8]) -> Self
         ensures value { λ r. ⌜ left r ≡ words 0 (now (line .entry)) ⌝ }
         ensures end { λ r. ⌜ end r ≡ length (now (line .entry)) ⌝ }
-        ensures parts { λ r. ⌜ All (Stands 0 (now (line .entry))) (left r) ⌝ }
     {
-        Words {
-            line,
-            place: 0,
-        }
+        Words { line, place: 0 }
     }
 
     // The next word and what is left after it, or nothing where no word is left.
@@ -76,17 +83,16 @@ impl<'a> Words<'a> {
         ensures parts { λ r. ⌜ Part (self .entry) r ⌝ }
     {
         let line = self.line;
-        let (_, text) = line.split_at(self.place.min(line.len()));
-        let (letters, rest) = next_word(text);
+        let (letters, after) = word_from(line, self.place);
         if letters.is_empty() {
             return None;
         }
-        let place = line.len() - rest.len();
         let word = Word {
             letters,
-            place: place - letters.len(),
+            place: after - letters.len(),
         };
-        Some((word, Words { line, place }))
+        let left = Words { line, place: after };
+        Some((word, left))
     }
 
     // The line's length: the place where a word is missing.
