@@ -3,7 +3,7 @@ use mathlib.Core.List.{List, [], _++_}
 use Prim.Native.Nat.{ℕ, _-_}
 use lib.ListN.{length, drop}
 use Rattle.checker.specs.Answers.{most, Reads}
-use Rattle.log_check.proofs.check_piece.Given as given
+use Rattle.check_input.proofs.check_piece.Given as given
 
 -- of the input with this piece, what stands from `at` on is not looked at yet
 abbrev pub Inv-lines : given.InvT-lines

@@ -1,6 +1,6 @@
 use mathlib.Core.Path.{_≡_}
 use lib.ListN.{length}
-use Rattle.log_check.proofs.main.Given as given
+use Rattle.check_input.proofs.check_input.Given as given
 
 -- the piece keeps its length
 abbrev pub Inv-loop : given.InvT-loop
