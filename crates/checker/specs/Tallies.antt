@@ -14,23 +14,15 @@ use Rattle.std.specs.declared.result.Result.the-variants.{Ok, Err}
 use Rattle.std.specs.shelf.Lists.{countBy}
 use Rattle.events.specs.declared.shapes.LineKind.{LineKind}
 use Rattle.events.specs.declared.shapes.LineKind.the-variants as kind
+use Rattle.events.specs.Lines.{number-of-kind}
 use Rattle.refusal.specs.declared.refusals.Refusal.{Refusal}
 use Rattle.checker.specs.declared.tally.Tally.{Tally}
 
 abbrev pub Answer : Type 0
 Answer = Result LineKind Refusal
 
-abbrev number : LineKind → ℕ
-number kind.Other = 0
-number kind.Assign = 1
-number kind.DecideAndOr = 2
-number kind.Conflict = 3
-number kind.Push = 4
-number kind.Pop = 5
-number kind.BeginCheck = 6
-
 abbrev pub is : LineKind → Answer → Bool
-is k (Ok j) = eqb (number k) (number j)
+is k (Ok j) = eqb (number-of-kind k) (number-of-kind j)
 is k (Err e) = false
 
 abbrev pub is-refused : Answer → Bool

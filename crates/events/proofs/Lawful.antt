@@ -24,10 +24,10 @@ use Rattle.events.specs.declared.shapes.LiteralWord.{LiteralWord}
 use Rattle.events.specs.declared.shapes.LiteralWord.the-variants as literal
 use Rattle.events.specs.declared.shapes.Mode.{Mode}
 use Rattle.events.specs.Keywords.{kind-of, literal-word}
-use Rattle.events.specs.Laws.{Blamed, Steady, Names, Named-part}
-use Rattle.events.specs.Lines.{Said, push, pop, begin-check, integer, assigned, by-kind, said, event-of, finished, completed, line-kind}
-use Rattle.events.specs.Literals.{Read, and-then, Named, valued, closed, begun-with, some-named, named, next-of, next-literal}
-use Rattle.events.specs.Reasons.{ended}
+use Rattle.events.specs.Laws.{Blamed, Steady, Names, Named-part, Numbered-alike}
+use Rattle.events.specs.Lines.{Said, other, assign, decide-and-or, conflict, push, pop, begin-check, integer, assigned, by-kind, said, event-of, passed, finished, completed, line-kind, number-of-case, number-of-kind}
+use Rattle.events.specs.Literals.{Read, and-then, Named, valued, closed, begun-with, some-named, named, literals, next-of, next-literal}
+use Rattle.events.specs.Reasons.{ended, reason-of}
 use Rattle.events.proofs.Blame.{Reader, Blames, Sure, Any}
 use Rattle.events.proofs.Readers.{going, line-sure, goes-event, goes-line}
 
@@ -150,3 +150,23 @@ module _ (line : List ℕ) where
 
   pub event-named : Names line (event-of line)
   event-named = said-named (length line) (words 0 line) (words-stand 0 line)
+
+-- the kind of a line is its event's case
+passed-kind : {A : Type 0} (k j : LineKind) (a : Result A Refusal) → passed k a ≡ Ok j → k ≡ j
+passed-kind k j (Ok x) e = cc
+passed-kind k j (Err r) e = let z : _≡_ {A = ℕ} 0 1 = cc in absurd (omega arith)
+
+ok-kind : (k j : LineKind) → _≡_ {A = Result LineKind Refusal} (Ok k) (Ok j) → k ≡ j
+ok-kind k j e = cc
+
+finished-kind : (m : Mode) (s : Said) (k : LineKind) → finished m s ≡ Ok k → number-of-kind k ≡ number-of-case s
+finished-kind m other k e = sym (ap number-of-kind (ok-kind kind.Other k e))
+finished-kind m (assign n end ws) k e = sym (ap number-of-kind (passed-kind kind.Assign k (reason-of m end ws) e))
+finished-kind m decide-and-or k e = sym (ap number-of-kind (ok-kind kind.DecideAndOr k e))
+finished-kind m (conflict end ws) k e = sym (ap number-of-kind (passed-kind kind.Conflict k (literals end ws) e))
+finished-kind m (push s) k e = sym (ap number-of-kind (ok-kind kind.Push k e))
+finished-kind m (pop n s) k e = sym (ap number-of-kind (ok-kind kind.Pop k e))
+finished-kind m (begin-check s) k e = sym (ap number-of-kind (ok-kind kind.BeginCheck k e))
+
+pub kind-numbered : (m : Mode) (line : List ℕ) → Numbered-alike m line
+kind-numbered m line s k said told = finished-kind m s k (ap (completed m) (sym said) ∙ told)

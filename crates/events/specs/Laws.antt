@@ -2,6 +2,7 @@
 --   Steady read      a refusal is of the line's end, or blames a word: whatever follows that word, the refusal is the same
 --   Names line r     the words that an answer names are parts of the line, at the places told
 --   Named-part       the same of a literal that the cursor gives
+--   Numbered-alike   the kind that a line is told to be has the number of its event's case
 --   Reached          for each kind of event and all values that it may hold there is a line that gives it
 use mathlib.Core.Path.{_≡_}
 use mathlib.Core.Bool.{Bool, true, false}
@@ -20,6 +21,7 @@ use Rattle.refusal.specs.Refusals.{place-of}
 use Rattle.refusal.specs.declared.refusals.Refusal.{Refusal}
 use Rattle.refusal.specs.declared.refusals.Refusal.the-variants as refusal
 use Rattle.words.specs.Words.{separator, starts, Placed, at, Stands}
+use Rattle.events.specs.declared.shapes.LineKind.{LineKind}
 use Rattle.events.specs.declared.shapes.LiteralWord.the-variants as literal
 use Rattle.events.specs.declared.shapes.Mode.{Mode}
 use Rattle.events.specs.declared.shapes.Reason.{Reason}
@@ -27,7 +29,7 @@ use Rattle.events.specs.declared.shapes.Reason.the-variants as reason
 use Rattle.events.specs.declared.shapes.SolverLiteral.{SolverLiteral}
 use Rattle.events.specs.declared.shapes.SolverLiteral.the-variants as lit
 use Rattle.events.specs.Keywords.{literal-word}
-use Rattle.events.specs.Lines.{Said, other, assign, decide-and-or, conflict, push, pop, begin-check, event-of}
+use Rattle.events.specs.Lines.{Said, other, assign, decide-and-or, conflict, push, pop, begin-check, event-of, line-kind, number-of-case, number-of-kind}
 use Rattle.events.specs.Literals.{Named, valued, literals}
 use Rattle.events.specs.Reasons.{reason-of}
 
@@ -86,6 +88,9 @@ unplaced n = (n .id .letters, n .value)
 abbrev pub all-unplaced : Result (List Named) Refusal → Result (List (List ℕ × Bool)) Refusal
 all-unplaced (Ok ns) = Ok (map unplaced ns)
 all-unplaced (Err e) = Err e
+
+abbrev pub Numbered-alike : Mode → List ℕ → Type 0
+Numbered-alike m line = (s : Said) (k : LineKind) → event-of line ≡ Ok s → line-kind m line ≡ Ok k → number-of-kind k ≡ number-of-case s
 
 pub record Reached : Type 0 where
   pub others : (line : List ℕ) × (event-of line ≡ Ok other)

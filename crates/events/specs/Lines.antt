@@ -1,6 +1,6 @@
 -- What a line says, from its words.
 --   Said                what a line says: its kind, the words that it names and its numbers
---   number-of-case s    the number of the case, 0 to 6
+--   number-of-case s    the number of the case, 0 to 6; number-of-kind k the same of a kind of line
 --   event-of line       what the line says, as far as it can be read before a book is asked
 --   line-kind mode line the kind of the line, once all of it is read
 use mathlib.Core.Bool.{Bool, cond}
@@ -84,6 +84,7 @@ completed m (Err e) = Err e
 abbrev pub line-kind : Mode → List ℕ → Result LineKind Refusal
 line-kind m line = completed m (event-of line)
 
+-- the cases by their numbers
 abbrev pub number-of-case : Said → ℕ
 number-of-case other = 0
 number-of-case (assign n end ws) = 1
@@ -92,3 +93,12 @@ number-of-case (conflict end ws) = 3
 number-of-case (push s) = 4
 number-of-case (pop n s) = 5
 number-of-case (begin-check s) = 6
+
+abbrev pub number-of-kind : LineKind → ℕ
+number-of-kind kind.Other = 0
+number-of-kind kind.Assign = 1
+number-of-kind kind.DecideAndOr = 2
+number-of-kind kind.Conflict = 3
+number-of-kind kind.Push = 4
+number-of-kind kind.Pop = 5
+number-of-kind kind.BeginCheck = 6

@@ -2,7 +2,7 @@
 ghost use mathlib.Core.Path.{_≡_};
 ghost use Rattle.words.specs.Left.{left, end};
 ghost use Rattle.events.specs.Lines.{integer, by-kind, event-of, line-kind};
-ghost use Rattle.events.specs.Laws.{Names, Steady, Reached};
+ghost use Rattle.events.specs.Laws.{Names, Numbered-alike, Steady, Reached};
 ghost use Rattle.events.specs.Shown.{read-of, shown, Kept};
 ghost use Rattle.events.specs.Worked.{Worked};
 use crate::keywords::line_kind;
@@ -115,6 +115,7 @@ fn kind(line: &[u8], mode: Mode) -> Result<LineKind, Refusal>
 // The kind of a line, once all of it is read; no book is asked.
 pub fn check_line(line: &[u8], mode: Mode) -> Result<LineKind, Refusal>
     ensures value { λ r. ⌜ r ≡ line-kind mode (now (line .entry)) ⌝ }
+    ensures numbers { λ _. ⌜ Numbered-alike mode (now (line .entry)) ⌝ }
     ensures steady { λ _. ⌜ Steady (line-kind mode) ⌝ }
 {
     kind(line, mode)

@@ -1,4 +1,4 @@
-// Checks the files that are named on the command line, each after its mode.
+// Checks each file that is named on the command line, as `bare:FILE` or `prefixed:FILE`.
 use check_input::check_input;
 use events::Mode;
 use std::env;
@@ -8,18 +8,23 @@ use std::fs::File;
 fn main(rt: LibcRuntime) -> Result<(), AnyError> {
     let mut args = env::args(&rt)?;
     let _program = args.next();
-    while let Some(mode) = args.next() {
-        let Some(path) = args.next() else {
-            return Err("a mode without a file".into());
-        };
-        let mode = match mode.as_str() {
-            "bare" => Mode::Bare,
-            _ => Mode::Prefixed,
-        };
-        let name = path.as_str();
-        println!(rt, "{name}")?;
-        let mut file = File::open(&rt, name)?;
-        check_input(&rt, &mut file, mode)?;
+    for arg in args {
+        check_file(&rt, arg.as_str())?;
     }
+    Ok(())
+}
+
+fn check_file(rt: &LibcRuntime, arg: &str) -> Result<(), AnyError> {
+    let Some((mode, name)) = arg.split_once(':') else {
+        return Err("no mode".into());
+    };
+    let mode = match mode {
+        "bare" => Mode::Bare,
+        "prefixed" => Mode::Prefixed,
+        _ => return Err("unknown mode".into()),
+    };
+    println!(rt, "{name}")?;
+    let mut file = File::open(rt, name)?;
+    check_input(rt, &mut file, mode)?;
     Ok(())
 }
