@@ -1,10 +1,10 @@
 -- The answers to the lines of a log that comes in pieces.
---   answer mode o            the answer to a line that the reader found, or found too long
+--   answer-to mode o            the answer-to to a line that the reader found, or found too long
 --   answers mode limit text  the answers to all lines of a text
 --   owed c text              the answers that are still to come from a text, from the line at hand on
---   checked r piece c        a step: its answer, the line at hand after it and what is left of the piece
+--   checked r piece c        a step: its answer-to, the line at hand after it and what is left of the piece
 --   next-answer c text       the same by definition
---   Reads c whole left       of the input so far, of which left is not looked at yet, the answers given are counted
+--   Has-read c whole left       of the input so far, of which left is not looked at yet, the answers given are counted
 use mathlib.Core.Path.{_≡_}
 use mathlib.Core.List.{List, [], _++_, map}
 use Prim.Native.Nat.{ℕ, _<_, _≤_}
@@ -22,18 +22,18 @@ use Rattle.refusal.specs.declared.refusals.Refusal.the-variants as refusal
 use Rattle.checker.specs.declared.checker.LogChecker.{LogChecker}
 use Rattle.checker.specs.Tallies.{Answer, tally-of}
 
-abbrev pub answer : Mode → Outcome → Answer
-answer m (line bytes) = line-kind m bytes
-answer m too-long = Err refusal.LineTooLong
+abbrev pub answer-to : Mode → Outcome → Answer
+answer-to m (line bytes) = line-kind m bytes
+answer-to m too-long = Err refusal.LineTooLong
 
 abbrev pub answers : Mode → ℕ → List ℕ → List Answer
-answers m n text = map (answer m) (map (judged n) (split text))
+answers m n text = map (answer-to m) (map (judged n) (split text))
 
-abbrev pub most : LogChecker → ℕ
-most c = limit (c .reader)
+abbrev pub limit-of : LogChecker → ℕ
+limit-of c = limit (c .reader)
 
 abbrev pub owed : LogChecker → List ℕ → List Answer
-owed c text = map (answer (c .mode)) (due (most c) (pending (c .reader)) text)
+owed c text = map (answer-to (c .mode)) (due (limit-of c) (pending (c .reader)) text)
 
 pub record Checked : Type 0 where
   pub given : Option Answer
@@ -45,19 +45,19 @@ checked r piece c = record { given = r .0; at-hand = pending (c .reader); left =
 
 abbrev pub next-answer : LogChecker → List ℕ → Checked
 next-answer c text =
-    let s = next-line (most c) (pending (c .reader)) text in
-    record { given = mapped (answer (c .mode)) (s .found); at-hand = s .at-hand; left = s .left }
+    let s = next-line (limit-of c) (pending (c .reader)) text in
+    record { given = mapped (answer-to (c .mode)) (s .found); at-hand = s .at-hand; left = s .left }
 
 abbrev pub last-answer : LogChecker → Option Answer
-last-answer c = mapped (answer (c .mode)) (last-line (most c) (pending (c .reader)))
+last-answer c = mapped (answer-to (c .mode)) (last-line (limit-of c) (pending (c .reader)))
 
--- a step with an answer goes on in the piece
-abbrev pub Onward : Option Answer → ℕ → ℕ → ℕ → Type 0
-Onward None at next end = next ≡ end
-Onward (Some a) at next end = (at < next) × (next ≤ end)
+-- a step with an answer-to goes on in the piece
+abbrev pub Goes-on : Option Answer → ℕ → ℕ → ℕ → Type 0
+Goes-on None at next end = next ≡ end
+Goes-on (Some a) at next end = (at < next) × (next ≤ end)
 
-pub record Reads (c : LogChecker) (whole left : List ℕ) : Type 0 where
+pub record Has-read (c : LogChecker) (whole left : List ℕ) : Type 0 where
   pub given : List Answer
   -- whatever input follows, the answers to all of it are those given and those owed
-  pub rest : (more : List ℕ) → answers (c .mode) (most c) (whole ++ more) ≡ given ++ owed c (left ++ more)
+  pub rest : (more : List ℕ) → answers (c .mode) (limit-of c) (whole ++ more) ≡ given ++ owed c (left ++ more)
   pub counts : c .tally ≡ tally-of given

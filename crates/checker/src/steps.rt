@@ -6,7 +6,7 @@ ghost use lib.ListN.{length, drop};
 ghost use Rattle.std.specs.Options.{mapped};
 ghost use Rattle.pieces.specs.Reader.{pending, seen};
 ghost use Rattle.pieces.specs.Reading.{kept};
-ghost use Rattle.checker.specs.Answers.{answer, answers, most, checked, next-answer, last-answer, Onward, Reads};
+ghost use Rattle.checker.specs.Answers.{answer-to, answers, limit-of, checked, next-answer, last-answer, Goes-on, Has-read};
 ghost use Rattle.checker.specs.Tallies.{tally-of, noted-after};
 use crate::checker::LogChecker;
 use crate::tally::Tally;
@@ -19,7 +19,7 @@ use refusal::Refusal;
 
 impl<'c> LogChecker<'c> {
     fn made(carry: &'c mut [u8], mode: Mode) -> Self
-        ensures room { λ r. ⌜ most r ≡ length (now (carry .entry)) ⌝ }
+        ensures room { λ r. ⌜ limit-of r ≡ length (now (carry .entry)) ⌝ }
         ensures mode { λ r. ⌜ r .mode ≡ mode ⌝ }
         ensures tally { λ r. ⌜ r .tally ≡ tally-of [] ⌝ }
         ensures empty { λ r. ⌜ pending (r .reader) ≡ kept [] ⌝ }
@@ -33,18 +33,18 @@ impl<'c> LogChecker<'c> {
 
     // A line may have as many bytes as the carry memory.
     pub fn new(carry: &'c mut [u8], mode: Mode) -> Self
-        ensures room { λ r. ⌜ most r ≡ length (now (carry .entry)) ⌝ }
+        ensures room { λ r. ⌜ limit-of r ≡ length (now (carry .entry)) ⌝ }
         ensures mode { λ r. ⌜ r .mode ≡ mode ⌝ }
         ensures tally { λ r. ⌜ r .tally ≡ tally-of [] ⌝ }
         ensures empty { λ r. ⌜ pending (r .reader) ≡ kept [] ⌝ }
-        ensures reads { λ r. ⌜ Reads r [] [] ⌝ }
+        ensures reads { λ r. ⌜ Has-read r [] [] ⌝ }
     {
         LogChecker::made(carry, mode)
     }
 
     // The answer to what the reader found.
     fn answered(&self, found: Found, piece: &[u8]) -> Option<Result<LineKind, Refusal>>
-        ensures { λ r. ⌜ r ≡ mapped (answer (now (self .entry) .mode)) (seen found (now (piece .entry)) (now (self .entry) .reader)) ⌝ }
+        ensures { λ r. ⌜ r ≡ mapped (answer-to (now (self .entry) .mode)) (seen found (now (piece .entry)) (now (self .entry) .reader)) ⌝ }
     {
         match found {
             Found::Line(span) => Some(check_line(self.reader.line(piece, span), self.mode)),
@@ -67,8 +67,8 @@ impl<'c> LogChecker<'c> {
         ensures value { λ r. ⌜ checked r (now (piece .entry)) (now (self .exit)) ≡ next-answer (now (self .entry)) (drop at (now (piece .entry))) ⌝ }
         ensures after { λ r. ⌜ now (self .exit) .tally ≡ noted-after (now (self .entry) .tally) (r .0) ⌝ }
         ensures mode { λ _. ⌜ now (self .exit) .mode ≡ now (self .entry) .mode ⌝ }
-        ensures room { λ _. ⌜ most (now (self .exit)) ≡ most (now (self .entry)) ⌝ }
-        ensures len { λ r. ⌜ Onward (r .0) at (r .1) (length (now (piece .entry))) ⌝ }
+        ensures room { λ _. ⌜ limit-of (now (self .exit)) ≡ limit-of (now (self .entry)) ⌝ }
+        ensures len { λ r. ⌜ Goes-on (r .0) at (r .1) (length (now (piece .entry))) ⌝ }
     {
         let (found, next) = self.reader.join(piece, at);
         let given = self.answered(found, piece);
@@ -80,7 +80,7 @@ impl<'c> LogChecker<'c> {
         ensures value { λ r. ⌜ r ≡ last-answer (now (self .entry)) ⌝ }
         ensures after { λ r. ⌜ now (self .exit) .tally ≡ noted-after (now (self .entry) .tally) r ⌝ }
         ensures mode { λ _. ⌜ now (self .exit) .mode ≡ now (self .entry) .mode ⌝ }
-        ensures room { λ _. ⌜ most (now (self .exit)) ≡ most (now (self .entry)) ⌝ }
+        ensures room { λ _. ⌜ limit-of (now (self .exit)) ≡ limit-of (now (self .entry)) ⌝ }
         ensures empty { λ _. ⌜ pending (now (self .exit) .reader) ≡ kept [] ⌝ }
     {
         let found = self.reader.finish();
@@ -94,9 +94,9 @@ impl<'c> LogChecker<'c> {
         ensures value { λ r. ⌜ checked r (now (piece .entry)) (now (self .exit)) ≡ next-answer (now (self .entry)) (drop at (now (piece .entry))) ⌝ }
         ensures after { λ r. ⌜ now (self .exit) .tally ≡ noted-after (now (self .entry) .tally) (r .0) ⌝ }
         ensures mode { λ _. ⌜ now (self .exit) .mode ≡ now (self .entry) .mode ⌝ }
-        ensures room { λ _. ⌜ most (now (self .exit)) ≡ most (now (self .entry)) ⌝ }
-        ensures len { λ r. ⌜ Onward (r .0) at (r .1) (length (now (piece .entry))) ⌝ }
-        ensures reads { λ r. ⌜ ((whole : List ℕ) → Reads (now (self .entry)) whole (drop at (now (piece .entry))) → Reads (now (self .exit)) whole (drop (r .1) (now (piece .entry)))) ⌝ }
+        ensures room { λ _. ⌜ limit-of (now (self .exit)) ≡ limit-of (now (self .entry)) ⌝ }
+        ensures len { λ r. ⌜ Goes-on (r .0) at (r .1) (length (now (piece .entry))) ⌝ }
+        ensures reads { λ r. ⌜ ((whole : List ℕ) → Has-read (now (self .entry)) whole (drop at (now (piece .entry))) → Has-read (now (self .exit)) whole (drop (r .1) (now (piece .entry)))) ⌝ }
     {
         self.step(piece, at)
     }
@@ -106,9 +106,9 @@ impl<'c> LogChecker<'c> {
         ensures value { λ r. ⌜ r ≡ last-answer (now (self .entry)) ⌝ }
         ensures after { λ r. ⌜ now (self .exit) .tally ≡ noted-after (now (self .entry) .tally) r ⌝ }
         ensures mode { λ _. ⌜ now (self .exit) .mode ≡ now (self .entry) .mode ⌝ }
-        ensures room { λ _. ⌜ most (now (self .exit)) ≡ most (now (self .entry)) ⌝ }
+        ensures room { λ _. ⌜ limit-of (now (self .exit)) ≡ limit-of (now (self .entry)) ⌝ }
         ensures empty { λ _. ⌜ pending (now (self .exit) .reader) ≡ kept [] ⌝ }
-        ensures reads { λ _. ⌜ ((whole : List ℕ) → Reads (now (self .entry)) whole [] → now (self .exit) .tally ≡ tally-of (answers (now (self .entry) .mode) (most (now (self .entry))) whole)) ⌝ }
+        ensures reads { λ _. ⌜ ((whole : List ℕ) → Has-read (now (self .entry)) whole [] → now (self .exit) .tally ≡ tally-of (answers (now (self .entry) .mode) (limit-of (now (self .entry))) whole)) ⌝ }
     {
         self.last()
     }

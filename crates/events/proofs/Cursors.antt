@@ -16,7 +16,7 @@ use Rattle.events.specs.declared.shapes.LiteralWord.the-variants as literal
 use Rattle.events.specs.declared.shapes.LineKind.{LineKind}
 use Rattle.events.specs.Lines.{passed}
 use Rattle.events.specs.Keywords.{literal-word, stripped}
-use Rattle.events.specs.Literals.{and-then, closed, after-not, begun-with, some-named, valued, Named, named, consed, led, closing, literals-after, literals, next-of, next-literal, given, Shorter}
+use Rattle.events.specs.Literals.{and-then, closed, after-not, begun-with, some-named, valued, Named, named, put-first, from-first, closing, literals-after, literals, next-of, next-literal, given, Shorter}
 
 -- all literals are the next one and those after it
 abbrev Stepped : ℕ → List Placed → Result (List Named) Refusal → Result (Option (Named × List Placed)) Refusal → Type 0
@@ -26,15 +26,15 @@ after-closed : (end p : ℕ) (ws vs : List Placed) (o : Option (List ℕ)) → S
 after-closed end p ws vs None = refl
 after-closed end p ws vs (Some w) = refl
 
-after-led : (k : LiteralWord) (end : ℕ) (w : Placed) (ws : List Placed) → Stepped end (w ∷ ws) (led k w (literals-after true end ws) (literals end ws)) (some-named (begun-with k end w ws))
-after-led literal.Constant end w ws = refl
-after-led literal.Not end w [] = refl
-after-led literal.Not end w (v ∷ vs) = after-closed end (v .place) (w ∷ v ∷ vs) vs (stripped 41 (v .letters))
-after-led literal.Id end w ws = refl
+after-first : (k : LiteralWord) (end : ℕ) (w : Placed) (ws : List Placed) → Stepped end (w ∷ ws) (from-first k w (literals-after true end ws) (literals end ws)) (some-named (begun-with k end w ws))
+after-first literal.Constant end w ws = refl
+after-first literal.Not end w [] = refl
+after-first literal.Not end w (v ∷ vs) = after-closed end (v .place) (w ∷ v ∷ vs) vs (stripped 41 (v .letters))
+after-first literal.Id end w ws = refl
 
 pub literals-stepped : (end : ℕ) (ws : List Placed) → literals end ws ≡ given (next-literal end ws .0) (literals end (next-literal end ws .1))
 literals-stepped end [] = refl
-literals-stepped end (w ∷ ws) = after-led (literal-word (w .letters)) end w ws
+literals-stepped end (w ∷ ws) = after-first (literal-word (w .letters)) end w ws
 
 -- a literal takes a word at least
 abbrev Fewer : List Placed → Result (Option (Named × List Placed)) Refusal → Type 0
@@ -46,15 +46,15 @@ closed-fewer : (p : ℕ) (ws vs : List Placed) (o : Option (List ℕ)) → lengt
 closed-fewer p ws vs None h = tt
 closed-fewer p ws vs (Some w) h = h
 
-led-fewer : (k : LiteralWord) (end : ℕ) (w : Placed) (ws : List Placed) → Fewer (w ∷ ws) (some-named (begun-with k end w ws))
-led-fewer literal.Constant end w ws = tt
-led-fewer literal.Not end w [] = tt
-led-fewer literal.Not end w (v ∷ vs) = closed-fewer (v .place) (w ∷ v ∷ vs) vs (stripped 41 (v .letters)) (omega arith)
-led-fewer literal.Id end w ws = omega arith
+from-first-fewer : (k : LiteralWord) (end : ℕ) (w : Placed) (ws : List Placed) → Fewer (w ∷ ws) (some-named (begun-with k end w ws))
+from-first-fewer literal.Constant end w ws = tt
+from-first-fewer literal.Not end w [] = tt
+from-first-fewer literal.Not end w (v ∷ vs) = closed-fewer (v .place) (w ∷ v ∷ vs) vs (stripped 41 (v .letters)) (omega arith)
+from-first-fewer literal.Id end w ws = omega arith
 
 named-fewer : (end : ℕ) (ws : List Placed) → Fewer ws (named end ws)
 named-fewer end [] = tt
-named-fewer end (w ∷ ws) = led-fewer (literal-word (w .letters)) end w ws
+named-fewer end (w ∷ ws) = from-first-fewer (literal-word (w .letters)) end w ws
 
 next-of-fewer : (ws rest : List Placed) (n : Named) (r : Result (Option (Named × List Placed)) Refusal) → Fewer ws r → (Ok (Some n), rest) ≡ next-of ws r → length rest < length ws
 next-of-fewer ws rest n (Ok None) h e = let f = ap (λ p. p .0) e in let z : _≡_ {A = ℕ} 0 1 = cc in absurd (omega arith)
@@ -71,6 +71,6 @@ module _ (end : ℕ) (ws rest : List Placed) where
   step-fewer (Ok (Some n)) e = next-of-fewer ws rest n (named end ws) (named-fewer end ws) e
   step-fewer (Err x) e = tt
 
-pub passed-consed : (k : LineKind) (n : Named) (r : Result (List Named) Refusal) → passed k (consed n r) ≡ passed k r
-passed-consed k n (Ok ns) = refl
-passed-consed k n (Err e) = refl
+pub passed-put-first : (k : LineKind) (n : Named) (r : Result (List Named) Refusal) → passed k (put-first n r) ≡ passed k r
+passed-put-first k n (Ok ns) = refl
+passed-put-first k n (Err e) = refl

@@ -37,10 +37,10 @@ use Rattle.events.specs.declared.shapes.Reason.the-variants as reason
 use Rattle.events.specs.declared.shapes.SolverLiteral.{SolverLiteral}
 use Rattle.events.specs.declared.shapes.SolverLiteral.the-variants as lit
 use Rattle.events.specs.Keywords.{literal-word, stripped, unprefixed}
-use Rattle.events.specs.Laws.{Id, Numbered, Fits, unplaced, all-unplaced, Reached}
+use Rattle.events.specs.Laws.{Id, In-range-literal, In-range, unplaced, all-unplaced, Reached}
 use Rattle.events.specs.Lines.{Said, other, assign, decide-and-or, conflict, push, pop, begin-check, at-least, integer, assigned, said, event-of}
-use Rattle.events.specs.Literals.{and-then, Named, valued, closed, begun-with, some-named, named, numbered, signed-by, after-p, with-rest, solver, consed, led, closing, literals-after, literals}
-use Rattle.events.specs.Reasons.{ended, numbered-theory, coloned, reason-of}
+use Rattle.events.specs.Literals.{and-then, Named, valued, closed, begun-with, some-named, named, numbered, signed-by, after-p, with-rest, solver, put-first, from-first, closing, literals-after, literals}
+use Rattle.events.specs.Reasons.{ended, theory-number, before-colon, reason-of}
 
 -- words of fixed letters
 abbrev all-letters : List ℕ → Bool
@@ -133,12 +133,12 @@ module _ (n : ℕ) (some : 0 < n) (fits : n < 2 ^ 32) where
   variable-plain mode.Prefixed true = (onto-word 112 (decimal n) refl (decimal-word n wide .1), tt)
   variable-plain mode.Prefixed false = ((lit< tt, plain-from (codes "(not") refl), (push-word (112 ∷ decimal n) 41 (refl, decimal-word n wide .1) refl, tt))
 
-literal-read : (m : Mode) (l : SolverLiteral) → Numbered l → (e p : ℕ) → solver m e (placed p (literal-words m l)) ≡ Ok (l, [])
+literal-read : (m : Mode) (l : SolverLiteral) → In-range-literal l → (e p : ℕ) → solver m e (placed p (literal-words m l)) ≡ Ok (l, [])
 literal-read m (lit.Constant true) h e p = refl
 literal-read m (lit.Constant false) h e p = refl
 literal-read m (lit.Variable n v) h e p = variable-read n (h .0) (h .1) m v e p
 
-literal-plain : (m : Mode) (l : SolverLiteral) → Numbered l → All One-word (literal-words m l)
+literal-plain : (m : Mode) (l : SolverLiteral) → In-range-literal l → All One-word (literal-words m l)
 literal-plain m (lit.Constant true) h = ((lit< tt, plain-from (codes "true") refl), tt)
 literal-plain m (lit.Constant false) h = ((lit< tt, plain-from (codes "false") refl), tt)
 literal-plain m (lit.Variable n v) h = variable-plain n (h .0) (h .1) m v
@@ -155,16 +155,16 @@ written-plain : (z : ℤ) → SFits w32 z → Plain (written z)
 written-plain (pos n) h = decimal-word n (omega (arith, h .sfits)) .1
 written-plain (negsuc n) h = (refl, decimal-word (suc n) (omega (arith, h .sfits)) .1)
 
-reason-read : (m : Mode) (r : Reason) → Fits r → (e p : ℕ) → reason-of m e (placed p (reason-words m r)) ≡ Ok r
+reason-read : (m : Mode) (r : Reason) → In-range r → (e p : ℕ) → reason-of m e (placed p (reason-words m r)) ≡ Ok r
 reason-read m reason.Decision h e p = refl
 reason-read m reason.Axiom h e p = refl
 reason-read m (reason.Bin l) h e p = ap (λ a. and-then a (λ l rest. ended (reason.Bin l) rest)) (literal-read m l h e (p + length (codes "bin") + 1))
 reason-read m (reason.Clause l) h e p = ap (λ a. and-then a (λ l rest. Ok (reason.Clause l))) (literal-read m l h e (p + length (codes "clause") + 1))
 reason-read m (reason.Theory z) h e p =
     let q = p + length (codes "justification") + 1 in
-    ap (coloned q) (stripped-push 58 (written z)) ∙ ap (numbered-theory q) (signed-written z h)
+    ap (before-colon q) (stripped-push 58 (written z)) ∙ ap (theory-number q) (signed-written z h)
 
-reason-plain : (m : Mode) (r : Reason) → Fits r → All One-word (reason-words m r)
+reason-plain : (m : Mode) (r : Reason) → In-range r → All One-word (reason-words m r)
 reason-plain m reason.Decision h = ((lit< tt, plain-from (codes "decision") refl), ((lit< tt, plain-from (codes "axiom") refl), tt))
 reason-plain m reason.Axiom h = ((lit< tt, plain-from (codes "axiom") refl), tt)
 reason-plain m (reason.Bin l) h = ((lit< tt, plain-from (codes "bin") refl), literal-plain m l h)
@@ -230,7 +230,7 @@ named-first id false h e p ws =
     let q = place + length (id ++ 41 ∷ []) + 1 in
     (place, q, ap (λ o. some-named (and-then (closed place (placed q ws) o) (λ v rest. Ok (valued v false, rest)))) (stripped-push 41 id))
 
-assigns : (m : Mode) (id : List ℕ) (v : Bool) (r : Reason) → Id id v → Fits r
+assigns : (m : Mode) (id : List ℕ) (v : Bool) (r : Reason) → Id id v → In-range r
     → (line : List ℕ) × (place : ℕ) × (end : ℕ) × (ws : List Placed) × (event-of line ≡ Ok (assign (valued (at place id) v) end ws)) × (reason-of m end ws ≡ Ok r)
 assigns m id v r h f =
     let why = reason-words m r in
@@ -255,20 +255,20 @@ cut-plain : (ls : List (List ℕ × Bool)) → All (λ l. Id (l .0) (l .1)) ls �
 cut-plain [] h = tt
 cut-plain (l ∷ ls) (k, h) = named-plain (l .0) (l .1) (cut-words ls) k (cut-plain ls h)
 
-consed-unplaced : (n : Named) (r : Result (List Named) Refusal) (ls : List (List ℕ × Bool)) → all-unplaced r ≡ Ok ls → all-unplaced (consed n r) ≡ Ok (unplaced n ∷ ls)
-consed-unplaced n (Ok ns) ls e = let same : map unplaced ns ≡ ls = cc in ap (λ l. Ok (unplaced n ∷ l)) same
-consed-unplaced n (Err x) ls e = let z : _≡_ {A = ℕ} 0 1 = cc in absurd (omega arith)
+put-first-unplaced : (n : Named) (r : Result (List Named) Refusal) (ls : List (List ℕ × Bool)) → all-unplaced r ≡ Ok ls → all-unplaced (put-first n r) ≡ Ok (unplaced n ∷ ls)
+put-first-unplaced n (Ok ns) ls e = let same : map unplaced ns ≡ ls = cc in ap (λ l. Ok (unplaced n ∷ l)) same
+put-first-unplaced n (Err x) ls e = let z : _≡_ {A = ℕ} 0 1 = cc in absurd (omega arith)
 
 cut-read : (ls : List (List ℕ × Bool)) → All (λ l. Id (l .0) (l .1)) ls → (e p : ℕ) → all-unplaced (literals e (placed p (cut-words ls))) ≡ Ok ls
 cut-read [] h e p = refl
 cut-read ((id, true) ∷ ls) (k, h) e p =
     let ws = placed (p + length id + 1) (cut-words ls) in
-    ap (λ t. all-unplaced (led t (at p id) (literals-after true e ws) (literals e ws))) (k .2) ∙ consed-unplaced (valued (at p id) true) (literals e ws) ls (cut-read ls h e (p + length id + 1))
+    ap (λ t. all-unplaced (from-first t (at p id) (literals-after true e ws) (literals e ws))) (k .2) ∙ put-first-unplaced (valued (at p id) true) (literals e ws) ls (cut-read ls h e (p + length id + 1))
 cut-read ((id, false) ∷ ls) (k, h) e p =
     let place = p + length (codes "(not") + 1 in
     let q = place + length (id ++ 41 ∷ []) + 1 in
     let ws = placed q (cut-words ls) in
-    ap (λ o. all-unplaced (closing place o (literals e ws))) (stripped-push 41 id) ∙ consed-unplaced (valued (at place id) false) (literals e ws) ls (cut-read ls h e q)
+    ap (λ o. all-unplaced (closing place o (literals e ws))) (stripped-push 41 id) ∙ put-first-unplaced (valued (at place id) false) (literals e ws) ls (cut-read ls h e q)
 
 conflicts : (ls : List (List ℕ × Bool)) → All (λ l. Id (l .0) (l .1)) ls
     → (line : List ℕ) × (end : ℕ) × (ws : List Placed) × (event-of line ≡ Ok (conflict end ws)) × (all-unplaced (literals end ws) ≡ Ok ls)

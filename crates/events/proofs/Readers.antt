@@ -29,8 +29,8 @@ use Rattle.events.specs.declared.shapes.SolverLiteral.{SolverLiteral}
 use Rattle.events.specs.declared.shapes.SolverLiteral.the-variants as lit
 use Rattle.events.specs.Keywords.{keyword-of, kind-of, literal-word, stripped, unprefixed}
 use Rattle.events.specs.Lines.{Said, other, assign, decide-and-or, conflict, push, pop, begin-check, at-least, integer, assigned, by-kind, said, passed, finished, completed}
-use Rattle.events.specs.Literals.{Read, and-then, Named, valued, closed, after-not, begun-with, some-named, named, numbered, variable, signed-by, bare, after-p, lettered, with-rest, prefixed, by-mode, solver, consed, led, closing, literals-after, literals}
-use Rattle.events.specs.Reasons.{ended, decided, numbered-theory, coloned, theory, by-keyword, reason-of}
+use Rattle.events.specs.Literals.{Read, and-then, Named, valued, closed, after-not, begun-with, some-named, named, numbered, variable, signed-by, bare, after-p, p-literal, with-rest, prefixed, by-mode, solver, put-first, from-first, closing, literals-after, literals}
+use Rattle.events.specs.Reasons.{ended, decided, theory-number, before-colon, theory, by-keyword, reason-of}
 use Rattle.events.proofs.Blame.{Reader, Sure, Sure-past, Any, Took, At, headed-any, headed-took, onward, then-any, turned-took, kept-any, then-past, refused-past, cond-past, took-past, fixed-took, fixed-any}
 
 ended-sure : {A : Type 0} (a : A) (e : ℕ) (ws : List Placed) → Sure Any (λ e ws. ended a ws) e ws (ended a ws)
@@ -81,15 +81,15 @@ after-p-at : (p : ℕ) (v : Bool) (o : Option (List ℕ)) → At p (after-p p v 
 after-p-at p v None = refl
 after-p-at p v (Some digits) = variable-at p v digits
 
-lettered-at : (v : Bool) (w : Placed) → At (w .place) (lettered v w)
-lettered-at v w = after-p-at (w .place) v (unprefixed 112 (w .letters))
+p-literal-at : (v : Bool) (w : Placed) → At (w .place) (p-literal v w)
+p-literal-at v w = after-p-at (w .place) v (unprefixed 112 (w .letters))
 
 abbrev negated : Reader (SolverLiteral × List Placed)
-negated e ws = and-then (after-not e ws) (λ v rest. with-rest rest (lettered false v))
+negated e ws = and-then (after-not e ws) (λ v rest. with-rest rest (p-literal false v))
 
-negated-past : (w : Placed) (e : ℕ) (ws : List Placed) (o : Option (List ℕ)) → Sure-past Took (λ e ws. and-then (closed (w .place) ws o) (λ v rest. with-rest rest (lettered false v))) w e ws (and-then (closed (w .place) ws o) (λ v rest. with-rest rest (lettered false v)))
+negated-past : (w : Placed) (e : ℕ) (ws : List Placed) (o : Option (List ℕ)) → Sure-past Took (λ e ws. and-then (closed (w .place) ws o) (λ v rest. with-rest rest (p-literal false v))) w e ws (and-then (closed (w .place) ws o) (λ v rest. with-rest rest (p-literal false v)))
 negated-past w e ws None = refused-past Took w e ws (refusal.TupleMissingParens (w .place)) refl
-negated-past w e ws (Some v) = fixed-took w e ws (lettered false (at (w .place) v)) (lettered-at false (at (w .place) v))
+negated-past w e ws (Some v) = fixed-took w e ws (p-literal false (at (w .place) v)) (p-literal-at false (at (w .place) v))
 
 negated-sure : (e : ℕ) (ws : List Placed) → Sure Took negated e ws (negated e ws)
 negated-sure e [] = inl refl
@@ -98,8 +98,8 @@ negated-sure e (w ∷ ws) = headed-took negated w e ws (negated e (w ∷ ws)) (n
 mode-past : (m : Mode) (w : Placed) (e : ℕ) (ws : List Placed) → Sure-past Took (λ e ws. by-mode m e w ws) w e ws (by-mode m e w ws)
 mode-past mode.Bare w e ws = fixed-took w e ws (bare w) (bare-at w (unprefixed 45 (w .letters)))
 mode-past mode.Prefixed w e ws =
-    cond-past Took w e ws (sameBytes (w .letters) (codes "(not")) negated (λ e ws. with-rest ws (lettered true w))
-    (onward Took negated w e ws (negated e ws) (negated-sure e ws)) (fixed-took w e ws (lettered true w) (lettered-at true w))
+    cond-past Took w e ws (sameBytes (w .letters) (codes "(not")) negated (λ e ws. with-rest ws (p-literal true w))
+    (onward Took negated w e ws (negated e ws) (negated-sure e ws)) (fixed-took w e ws (p-literal true w) (p-literal-at true w))
 
 solver-past : (m : Mode) (w : Placed) (e : ℕ) (ws : List Placed) → Sure-past Took (λ e ws. solver m e (w ∷ ws)) w e ws (solver m e (w ∷ ws))
 solver-past m w e ws =
@@ -117,17 +117,17 @@ decided-sure e (w ∷ ws) =
     headed-any decided w e ws (decided e (w ∷ ws)) (cond-past Any w e ws (sameBytes (w .letters) (codes "axiom")) (λ e ws. ended reason.Decision ws) (λ e ws. Err (refusal.DecisionNotAxiom (w .place)))
     (onward Any (λ e ws. ended reason.Decision ws) w e ws (ended reason.Decision ws) (ended-sure reason.Decision e ws)) (refused-past Any w e ws (refusal.DecisionNotAxiom (w .place)) refl))
 
-theory-at : (p : ℕ) (o : Option ℤ) → At p (numbered-theory p o)
+theory-at : (p : ℕ) (o : Option ℤ) → At p (theory-number p o)
 theory-at p None = refl
 theory-at p (Some z) = tt
 
-coloned-at : (p : ℕ) (o : Option (List ℕ)) → At p (coloned p o)
-coloned-at p None = refl
-coloned-at p (Some w) = theory-at p (signed w)
+before-colon-at : (p : ℕ) (o : Option (List ℕ)) → At p (before-colon p o)
+before-colon-at p None = refl
+before-colon-at p (Some w) = theory-at p (signed w)
 
 theory-sure : (e : ℕ) (ws : List Placed) → Sure Any theory e ws (theory e ws)
 theory-sure e [] = inl refl
-theory-sure e (w ∷ ws) = headed-any theory w e ws (theory e (w ∷ ws)) (fixed-any w e ws (coloned (w .place) (stripped 58 (w .letters))) (coloned-at (w .place) (stripped 58 (w .letters))))
+theory-sure e (w ∷ ws) = headed-any theory w e ws (theory e (w ∷ ws)) (fixed-any w e ws (before-colon (w .place) (stripped 58 (w .letters))) (before-colon-at (w .place) (stripped 58 (w .letters))))
 
 keyword-past : (k : Keyword) (m : Mode) (w : Placed) (e : ℕ) (ws : List Placed) → Sure-past Any (λ e ws. by-keyword k m e w ws) w e ws (by-keyword k m e w ws)
 keyword-past keyword.Decision m w e ws = onward Any decided w e ws (decided e ws) (decided-sure e ws)
@@ -144,25 +144,25 @@ reason-sure m e [] = inl refl
 reason-sure m e (w ∷ ws) = headed-any (reason-of m) w e ws (reason-of m e (w ∷ ws)) (keyword-past (keyword-of (w .letters)) m w e ws)
 
 -- all named literals
-consed-past : (n : Named) (w : Placed) (e : ℕ) (ws : List Placed) → Sure Any (literals-after false) e ws (literals-after false e ws) → Sure-past Any (λ e ws. consed n (literals-after false e ws)) w e ws (consed n (literals-after false e ws))
-consed-past n w e ws h =
-    onward Any (λ e ws. consed n (literals-after false e ws)) w e ws (consed n (literals-after false e ws)) (kept-any (consed n) (λ ns. (n ∷ ns, refl)) (λ r. refl) (literals-after false) e ws h)
+put-first-past : (n : Named) (w : Placed) (e : ℕ) (ws : List Placed) → Sure Any (literals-after false) e ws (literals-after false e ws) → Sure-past Any (λ e ws. put-first n (literals-after false e ws)) w e ws (put-first n (literals-after false e ws))
+put-first-past n w e ws h =
+    onward Any (λ e ws. put-first n (literals-after false e ws)) w e ws (put-first n (literals-after false e ws)) (kept-any (put-first n) (λ ns. (n ∷ ns, refl)) (λ r. refl) (literals-after false) e ws h)
 
-led-past : (k : LiteralWord) (w : Placed) (e : ℕ) (ws : List Placed) → Sure Any (literals-after true) e ws (literals-after true e ws) → Sure Any (literals-after false) e ws (literals-after false e ws)
-    → Sure-past Any (λ e ws. led k w (literals-after true e ws) (literals-after false e ws)) w e ws (led k w (literals-after true e ws) (literals-after false e ws))
-led-past literal.Constant w e ws g h = refused-past Any w e ws (refusal.BoolLiteral (w .place)) refl
-led-past literal.Not w e ws g h = onward Any (literals-after true) w e ws (literals-after true e ws) g
-led-past literal.Id w e ws g h = consed-past (valued w true) w e ws h
+from-first-past : (k : LiteralWord) (w : Placed) (e : ℕ) (ws : List Placed) → Sure Any (literals-after true) e ws (literals-after true e ws) → Sure Any (literals-after false) e ws (literals-after false e ws)
+    → Sure-past Any (λ e ws. from-first k w (literals-after true e ws) (literals-after false e ws)) w e ws (from-first k w (literals-after true e ws) (literals-after false e ws))
+from-first-past literal.Constant w e ws g h = refused-past Any w e ws (refusal.BoolLiteral (w .place)) refl
+from-first-past literal.Not w e ws g h = onward Any (literals-after true) w e ws (literals-after true e ws) g
+from-first-past literal.Id w e ws g h = put-first-past (valued w true) w e ws h
 
 closing-past : (o : Option (List ℕ)) (w : Placed) (e : ℕ) (ws : List Placed) → Sure Any (literals-after false) e ws (literals-after false e ws)
     → Sure-past Any (λ e ws. closing (w .place) o (literals-after false e ws)) w e ws (closing (w .place) o (literals-after false e ws))
 closing-past None w e ws h = refused-past Any w e ws (refusal.TupleMissingParens (w .place)) refl
-closing-past (Some v) w e ws h = consed-past (valued (at (w .place) v) false) w e ws h
+closing-past (Some v) w e ws h = put-first-past (valued (at (w .place) v) false) w e ws h
 
 literals-sure : (t : Bool) (e : ℕ) (ws : List Placed) → Sure Any (literals-after t) e ws (literals-after t e ws)
 literals-sure false e [] = tt
 literals-sure true e [] = inl refl
-literals-sure false e (w ∷ ws) = headed-any (literals-after false) w e ws (literals-after false e (w ∷ ws)) (led-past (literal-word (w .letters)) w e ws (literals-sure true e ws) (literals-sure false e ws))
+literals-sure false e (w ∷ ws) = headed-any (literals-after false) w e ws (literals-after false e (w ∷ ws)) (from-first-past (literal-word (w .letters)) w e ws (literals-sure true e ws) (literals-sure false e ws))
 literals-sure true e (w ∷ ws) = headed-any (literals-after true) w e ws (literals-after true e (w ∷ ws)) (closing-past (stripped 41 (w .letters)) w e ws (literals-sure false e ws))
 
 -- whole lines, where g goes on with what was said

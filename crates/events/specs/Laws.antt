@@ -44,7 +44,7 @@ pub record Blamed {A : Type 0} (read : List ℕ → Result A Refusal) (line : Li
   pub some : 0 < length word
   pub plain : All (λ b. separator b ≡ false) word
   pub apart : starts rest ≡ false
-  pub steady : (other : List ℕ) → starts other ≡ false → read (front ++ (word ++ other)) ≡ Err r
+  pub steady : (more : List ℕ) → starts more ≡ false → read (front ++ (word ++ more)) ≡ Err r
 
 abbrev pub Steady : {A : Type 0} → (List ℕ → Result A Refusal) → Type 0
 Steady read = (line : List ℕ) (r : Refusal) → read line ≡ Err r → (r ≡ refusal.UnexpectedNewline (length line)) ⊎ Blamed read line r
@@ -70,16 +70,16 @@ Id id true = All (λ b. separator b ≡ false) id × (0 < length id) × (literal
 Id id false = All (λ b. separator b ≡ false) id
 
 -- the numbers that a reason can hold
-abbrev pub Numbered : SolverLiteral → Type 0
-Numbered (lit.Constant v) = Unit {0}
-Numbered (lit.Variable n v) = (0 < n) × (n < 2 ^ 32)
+abbrev pub In-range-literal : SolverLiteral → Type 0
+In-range-literal (lit.Constant v) = Unit {0}
+In-range-literal (lit.Variable n v) = (0 < n) × (n < 2 ^ 32)
 
-abbrev pub Fits : Reason → Type 0
-Fits reason.Decision = Unit {0}
-Fits reason.Axiom = Unit {0}
-Fits (reason.Bin l) = Numbered l
-Fits (reason.Clause l) = Numbered l
-Fits (reason.Theory z) = SFits w32 z
+abbrev pub In-range : Reason → Type 0
+In-range reason.Decision = Unit {0}
+In-range reason.Axiom = Unit {0}
+In-range (reason.Bin l) = In-range-literal l
+In-range (reason.Clause l) = In-range-literal l
+In-range (reason.Theory z) = SFits w32 z
 
 -- the ids and values of named literals, without their places
 abbrev pub unplaced : Named → List ℕ × Bool
@@ -94,7 +94,7 @@ Numbered-alike m line = (s : Said) (k : LineKind) → event-of line ≡ Ok s →
 
 pub record Reached : Type 0 where
   pub others : (line : List ℕ) × (event-of line ≡ Ok other)
-  pub assigns : (m : Mode) (id : List ℕ) (v : Bool) (r : Reason) → Id id v → Fits r
+  pub assigns : (m : Mode) (id : List ℕ) (v : Bool) (r : Reason) → Id id v → In-range r
       → (line : List ℕ) × (place : ℕ) × (end : ℕ) × (ws : List Placed) × (event-of line ≡ Ok (assign (valued (at place id) v) end ws)) × (reason-of m end ws ≡ Ok r)
   pub decides : (line : List ℕ) × (event-of line ≡ Ok decide-and-or)
   pub conflicts : (ls : List (List ℕ × Bool)) → All (λ l. Id (l .0) (l .1)) ls

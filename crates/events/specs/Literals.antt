@@ -86,15 +86,15 @@ abbrev pub after-p : ℕ → Bool → Option (List ℕ) → Result SolverLiteral
 after-p p v None = Err (refusal.BoolLiteralNotP p)
 after-p p v (Some digits) = variable p v digits
 
-abbrev pub lettered : Bool → Placed → Result SolverLiteral Refusal
-lettered v w = after-p (w .place) v (unprefixed 112 (w .letters))
+abbrev pub p-literal : Bool → Placed → Result SolverLiteral Refusal
+p-literal v w = after-p (w .place) v (unprefixed 112 (w .letters))
 
 abbrev pub with-rest : {A : Type 0} → List Placed → Result A Refusal → Read A
 with-rest ws (Ok a) = Ok (a, ws)
 with-rest ws (Err e) = Err e
 
 abbrev pub prefixed : ℕ → Placed → List Placed → Read SolverLiteral
-prefixed end w ws = cond (sameBytes (w .letters) (codes "(not")) (and-then (after-not end ws) (λ v rest. with-rest rest (lettered false v))) (with-rest ws (lettered true w))
+prefixed end w ws = cond (sameBytes (w .letters) (codes "(not")) (and-then (after-not end ws) (λ v rest. with-rest rest (p-literal false v))) (with-rest ws (p-literal true w))
 
 abbrev pub by-mode : Mode → ℕ → Placed → List Placed → Read SolverLiteral
 by-mode mode.Bare end w ws = with-rest ws (bare w)
@@ -105,24 +105,24 @@ solver m end [] = Err (refusal.UnexpectedNewline end)
 solver m end (w ∷ ws) =
     cond (sameBytes (w .letters) (codes "true")) (Ok (lit.Constant true, ws)) (cond (sameBytes (w .letters) (codes "false")) (Ok (lit.Constant false, ws)) (by-mode m end w ws))
 
--- all named literals; the flag says that the word before was `(not`
-abbrev pub consed : Named → Result (List Named) Refusal → Result (List Named) Refusal
-consed n (Ok ns) = Ok (n ∷ ns)
-consed n (Err e) = Err e
+abbrev pub put-first : Named → Result (List Named) Refusal → Result (List Named) Refusal
+put-first n (Ok ns) = Ok (n ∷ ns)
+put-first n (Err e) = Err e
 
-abbrev pub led : LiteralWord → Placed → Result (List Named) Refusal → Result (List Named) Refusal → Result (List Named) Refusal
-led literal.Constant w negated plain = Err (refusal.BoolLiteral (w .place))
-led literal.Not w negated plain = negated
-led literal.Id w negated plain = consed (valued w true) plain
+abbrev pub from-first : LiteralWord → Placed → Result (List Named) Refusal → Result (List Named) Refusal → Result (List Named) Refusal
+from-first literal.Constant w negated plain = Err (refusal.BoolLiteral (w .place))
+from-first literal.Not w negated plain = negated
+from-first literal.Id w negated plain = put-first (valued w true) plain
 
 abbrev pub closing : ℕ → Option (List ℕ) → Result (List Named) Refusal → Result (List Named) Refusal
 closing p None plain = Err (refusal.TupleMissingParens p)
-closing p (Some w) plain = consed (valued (at p w) false) plain
+closing p (Some w) plain = put-first (valued (at p w) false) plain
 
+-- all named literals; the flag says that the word before was `(not`
 abbrev pub literals-after : Bool → ℕ → List Placed → Result (List Named) Refusal
 literals-after false end [] = Ok []
 literals-after true end [] = Err (refusal.UnexpectedNewline end)
-literals-after false end (w ∷ ws) = led (literal-word (w .letters)) w (literals-after true end ws) (literals-after false end ws)
+literals-after false end (w ∷ ws) = from-first (literal-word (w .letters)) w (literals-after true end ws) (literals-after false end ws)
 literals-after true end (w ∷ ws) = closing (w .place) (stripped 41 (w .letters)) (literals-after false end ws)
 
 abbrev pub literals : ℕ → List Placed → Result (List Named) Refusal
@@ -140,7 +140,7 @@ next-literal end ws = next-of ws (named end ws)
 -- the literals from one on, by what the cursor gave and the literals after it
 abbrev pub given : Result (Option Named) Refusal → Result (List Named) Refusal → Result (List Named) Refusal
 given (Ok None) later = Ok []
-given (Ok (Some n)) later = consed n later
+given (Ok (Some n)) later = put-first n later
 given (Err e) later = Err e
 
 -- a literal takes a word at least

@@ -1,6 +1,6 @@
 -- Why a literal was assigned, from the words after it.
 --   ended a ws           a, if no word is left
---   reason mode end ws   the reason that the words tell; end is the line's length
+--   reason-of mode end ws   the reason that the words tell; end is the line's length
 use mathlib.Core.Bool.{cond}
 use mathlib.Core.List.{List, [], _∷_}
 use Prim.Native.Nat.{ℕ}
@@ -31,17 +31,17 @@ abbrev pub decided : ℕ → List Placed → Result Reason Refusal
 decided end [] = Err (refusal.UnexpectedNewline end)
 decided end (w ∷ ws) = cond (sameBytes (w .letters) (codes "axiom")) (ended reason.Decision ws) (Err (refusal.DecisionNotAxiom (w .place)))
 
-abbrev pub numbered-theory : ℕ → Option ℤ → Result Reason Refusal
-numbered-theory p None = Err (refusal.InvalidTheoryId p)
-numbered-theory p (Some z) = Ok (reason.Theory z)
+abbrev pub theory-number : ℕ → Option ℤ → Result Reason Refusal
+theory-number p None = Err (refusal.InvalidTheoryId p)
+theory-number p (Some z) = Ok (reason.Theory z)
 
-abbrev pub coloned : ℕ → Option (List ℕ) → Result Reason Refusal
-coloned p None = Err (refusal.MissingColonJustification p)
-coloned p (Some w) = numbered-theory p (signed w)
+abbrev pub before-colon : ℕ → Option (List ℕ) → Result Reason Refusal
+before-colon p None = Err (refusal.MissingColonJustification p)
+before-colon p (Some w) = theory-number p (signed w)
 
 abbrev pub theory : ℕ → List Placed → Result Reason Refusal
 theory end [] = Err (refusal.UnexpectedNewline end)
-theory end (w ∷ ws) = coloned (w .place) (stripped 58 (w .letters))
+theory end (w ∷ ws) = before-colon (w .place) (stripped 58 (w .letters))
 
 abbrev pub by-keyword : Keyword → Mode → ℕ → Placed → List Placed → Result Reason Refusal
 by-keyword keyword.Decision m end w ws = decided end ws

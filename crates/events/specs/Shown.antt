@@ -1,6 +1,7 @@
 -- What the program's answers mean, as words and numbers.
 --   shown r       what a reading of a line gave
 --   next-shown r  what the cursor over named literals gave
+--   Of-line l r   what an event leaves to be read is left of the line l
 --   Kept w r      the words left after a reading of w are of the same line
 use mathlib.Core.Path.{_≡_}
 use mathlib.Core.List.{List}
@@ -68,3 +69,14 @@ abbrev pub Kept-named : Words → Result (Option (NamedLiteral × Words)) Refusa
 Kept-named w (Ok None) = Unit {0}
 Kept-named w (Ok (Some r)) = now (r .1 .line) ≡ now (w .line)
 Kept-named w (Err e) = Unit {0}
+
+-- what an event leaves to be read is left of the line itself
+abbrev pub Of-line : List ℕ → Result Event Refusal → Type 0
+Of-line text (Ok event.Other) = Unit {0}
+Of-line text (Ok (event.Assign n rest)) = now (rest .line) ≡ text
+Of-line text (Ok event.DecideAndOr) = Unit {0}
+Of-line text (Ok (event.Conflict l)) = now (l .rest .line) ≡ text
+Of-line text (Ok (event.Push s)) = Unit {0}
+Of-line text (Ok (event.Pop n s)) = Unit {0}
+Of-line text (Ok (event.BeginCheck s)) = Unit {0}
+Of-line text (Err e) = Unit {0}

@@ -3,7 +3,7 @@ ghost use mathlib.Core.Path.{_≡_};
 ghost use Rattle.words.specs.Left.{left, end};
 ghost use Rattle.events.specs.Lines.{integer, by-kind, event-of, line-kind};
 ghost use Rattle.events.specs.Laws.{Names, Numbered-alike, Steady, Reached};
-ghost use Rattle.events.specs.Shown.{read-of, shown, Kept};
+ghost use Rattle.events.specs.Shown.{read-of, shown, Kept, Of-line};
 ghost use Rattle.events.specs.Worked.{Worked};
 use crate::keywords::line_kind;
 use crate::literals::check_literals;
@@ -33,7 +33,8 @@ fn integer<'a>(words: Words<'a>, least: u64) -> Result<(u64, Words<'a>), Refusal
 }
 
 fn assign<'a>(words: Words<'a>) -> Result<Event<'a>, Refusal>
-    ensures { λ r. ⌜ shown r ≡ by-kind LineKind.Assign (end (words .entry)) (left (words .entry)) ⌝ }
+    ensures value { λ r. ⌜ shown r ≡ by-kind LineKind.Assign (end (words .entry)) (left (words .entry)) ⌝ }
+    ensures same { λ r. ⌜ Of-line (now (words .entry .line)) r ⌝ }
 {
     let Some((literal, rest)) = named_literal(words)? else {
         return Err(Refusal::UnexpectedNewline { place: words.end() });
@@ -42,7 +43,8 @@ fn assign<'a>(words: Words<'a>) -> Result<Event<'a>, Refusal>
 }
 
 fn push<'a>(words: Words<'a>) -> Result<Event<'a>, Refusal>
-    ensures { λ r. ⌜ shown r ≡ by-kind LineKind.Push (end (words .entry)) (left (words .entry)) ⌝ }
+    ensures value { λ r. ⌜ shown r ≡ by-kind LineKind.Push (end (words .entry)) (left (words .entry)) ⌝ }
+    ensures same { λ r. ⌜ Of-line (now (words .entry .line)) r ⌝ }
 {
     let (scope, rest) = integer(words, 0)?;
     expect_completed(rest)?;
@@ -50,7 +52,8 @@ fn push<'a>(words: Words<'a>) -> Result<Event<'a>, Refusal>
 }
 
 fn pop<'a>(words: Words<'a>) -> Result<Event<'a>, Refusal>
-    ensures { λ r. ⌜ shown r ≡ by-kind LineKind.Pop (end (words .entry)) (left (words .entry)) ⌝ }
+    ensures value { λ r. ⌜ shown r ≡ by-kind LineKind.Pop (end (words .entry)) (left (words .entry)) ⌝ }
+    ensures same { λ r. ⌜ Of-line (now (words .entry .line)) r ⌝ }
 {
     let (count, rest) = integer(words, 1)?;
     let (scope, after) = integer(rest, 0)?;
@@ -59,14 +62,16 @@ fn pop<'a>(words: Words<'a>) -> Result<Event<'a>, Refusal>
 }
 
 fn begin_check<'a>(words: Words<'a>) -> Result<Event<'a>, Refusal>
-    ensures { λ r. ⌜ shown r ≡ by-kind LineKind.BeginCheck (end (words .entry)) (left (words .entry)) ⌝ }
+    ensures value { λ r. ⌜ shown r ≡ by-kind LineKind.BeginCheck (end (words .entry)) (left (words .entry)) ⌝ }
+    ensures same { λ r. ⌜ Of-line (now (words .entry .line)) r ⌝ }
 {
     let (scope, _) = integer(words, 0)?;
     Ok(Event::BeginCheck { scope })
 }
 
 fn event<'a>(line: &'a [u8]) -> Result<Event<'a>, Refusal>
-    ensures { λ r. ⌜ shown r ≡ event-of (now (line .entry)) ⌝ }
+    ensures value { λ r. ⌜ shown r ≡ event-of (now (line .entry)) ⌝ }
+    ensures same { λ r. ⌜ Of-line (now (line .entry)) r ⌝ }
 {
     let Some((word, rest)) = Words::of(line).next() else {
         return Ok(Event::Other);
@@ -87,6 +92,7 @@ fn event<'a>(line: &'a [u8]) -> Result<Event<'a>, Refusal>
 // What a line says, as far as it is read before a book is asked.
 pub fn read_event(line: &[u8]) -> Result<Event<'_>, Refusal>
     ensures value { λ r. ⌜ shown r ≡ event-of (now (line .entry)) ⌝ }
+    ensures same { λ r. ⌜ Of-line (now (line .entry)) r ⌝ }
     ensures names { λ r. ⌜ Names (now (line .entry)) (shown r) ⌝ }
     ensures steady { λ _. ⌜ Steady event-of ⌝ }
     ensures reached { λ _. ⌜ Reached ⌝ }

@@ -3,7 +3,7 @@ ghost use mathlib.Core.Path.{_≡_};
 ghost use Rattle.words.specs.Left.{left, end, word-of};
 ghost use Rattle.events.specs.Laws.{Named-part};
 ghost use Rattle.events.specs.Lines.{passed};
-ghost use Rattle.events.specs.Literals.{after-not, named, variable, bare, lettered, prefixed, solver, next-literal, literals, given, Shorter};
+ghost use Rattle.events.specs.Literals.{after-not, named, variable, bare, p-literal, prefixed, solver, next-literal, literals, given, Shorter};
 ghost use Rattle.events.specs.Shown.{read-of, word-read, named-read, next-shown, Kept, Kept-named};
 use crate::keywords::literal_word;
 use crate::keywords::strip_first;
@@ -89,8 +89,8 @@ fn bare_literal(word: Word) -> Result<SolverLiteral, Refusal>
 }
 
 // In prefixed mode the number follows `p`.
-fn lettered_literal(word: Word, value: bool) -> Result<SolverLiteral, Refusal>
-    ensures { λ r. ⌜ r ≡ lettered value (word-of (word .entry)) ⌝ }
+fn p_literal(word: Word, value: bool) -> Result<SolverLiteral, Refusal>
+    ensures { λ r. ⌜ r ≡ p-literal value (word-of (word .entry)) ⌝ }
 {
     let Some(digits) = strip_first(word.letters, b'p') else {
         return Err(Refusal::BoolLiteralNotP { place: word.place });
@@ -105,10 +105,10 @@ fn prefixed_literal<'a>(
     ensures { λ r. ⌜ read-of r ≡ prefixed (end (rest .entry)) (word-of (word .entry)) (left (rest .entry)) ⌝ }
 {
     if !same_bytes(word.letters, b"(not") {
-        return Ok((lettered_literal(word, true)?, rest));
+        return Ok((p_literal(word, true)?, rest));
     }
     let (inner, after) = closed_word(rest)?;
-    Ok((lettered_literal(inner, false)?, after))
+    Ok((p_literal(inner, false)?, after))
 }
 
 // The next solver literal and the words after it.

@@ -1,5 +1,6 @@
 // Checks the log on standard input, in bare mode or, with `--prefixed`, in prefixed mode.
 use check_input::check_input;
+use check_input::mode_for;
 use events::Mode;
 use std::env;
 use std::error::AnyError;
@@ -10,20 +11,21 @@ fn main(rt: LibcRuntime) -> Result<(), AnyError> {
         eprintln!(rt, "usage: log-check [--prefixed] < LOG")?;
         return Err("unknown argument".into());
     };
-    check_input(&rt, &mut rt.stdin(), mode)?;
+    rt.report(run(&rt, mode))
+}
+
+fn run(rt: &LibcRuntime, mode: Mode) -> Result<(), AnyError> {
+    check_input(rt, &mut rt.stdin(), mode)?;
     Ok(())
 }
 
-// No argument, or `--prefixed` alone; nothing for any other.
+// Bare mode without an argument.
 fn mode_from_args(rt: &LibcRuntime) -> io::Result<Option<Mode>> {
     let mut args = env::args(rt)?;
     let _program = args.next();
     let Some(first) = args.next() else {
         return Ok(Some(Mode::Bare));
     };
-    if first.as_str() == "--prefixed" && args.next().is_none() {
-        Ok(Some(Mode::Prefixed))
-    } else {
-        Ok(None)
-    }
+    let more = args.next().is_some();
+    Ok(mode_for(first.as_str(), more))
 }

@@ -1,7 +1,7 @@
 // The words of a line: runs of bytes between separators.
 ghost use mathlib.Core.Path.{_≡_};
 ghost use Prim.Native.Nat.{_≤_};
-ghost use lib.ListN.{length, drop};
+ghost use lib.ListN.{length, take, drop};
 ghost use Rattle.std.specs.shelf.Lists.{All, leading};
 ghost use Rattle.std.specs.shelf.Text.{sameBytes};
 ghost use Rattle.words.specs.Words.{separator, letter, blanks, next-word, Cut, words, words-by, Stands};
@@ -12,7 +12,7 @@ mod rest;
 pub use rest::Word;
 pub use rest::Words;
 
-// `==` on bytes, told as a test that a definition can cite.
+// Whether two words are equal, byte by byte.
 pub fn same_bytes(word: &[u8], text: &[u8]) -> bool
     ensures { λ r. ⌜ r ≡ sameBytes (now (word .entry)) (now (text .entry)) ⌝ }
 {
@@ -47,13 +47,34 @@ fn word_len(text: &[u8]) -> usize
     n
 }
 
+// The text from its first letter on.
+fn after_blanks(text: &[u8]) -> &[u8]
+    ensures { λ r. ⌜ now r ≡ drop (blanks (now (text .entry))) (now (text .entry)) ⌝ }
+{
+    let (_, rest) = text.split_at(blank_len(text));
+    rest
+}
+
+// The letters at the front, and what follows them.
+fn letters_first(text: &[u8]) -> (&[u8], &[u8])
+    ensures front { λ r. ⌜ now (r .0) ≡ take (leading letter (now (text .entry))) (now (text .entry)) ⌝ }
+    ensures back { λ r. ⌜ now (r .1) ≡ drop (leading letter (now (text .entry))) (now (text .entry)) ⌝ }
+{
+    text.split_at(word_len(text))
+}
+
+fn cut_word(line: &[u8]) -> (&[u8], &[u8])
+    ensures { λ r. ⌜ (now (r .0), now (r .1)) ≡ next-word (now (line .entry)) ⌝ }
+{
+    letters_first(after_blanks(line))
+}
+
 // The next word, which is empty where none is left, and the rest of the line.
 pub fn next_word(line: &[u8]) -> (&[u8], &[u8])
     ensures value { λ r. ⌜ (now (r .0), now (r .1)) ≡ next-word (now (line .entry)) ⌝ }
     ensures laws { λ r. ⌜ Cut (now (line .entry)) (now (r .0)) (now (r .1)) ⌝ }
 {
-    let (_, text) = line.split_at(blank_len(line));
-    text.split_at(word_len(text))
+    cut_word(line)
 }
 
 // The next word of a line from a place on, and the place after it.
@@ -71,7 +92,7 @@ impl<'a> Words<'a> {
     // All words of a line.
     pub fn of(line: &'a [u8]) -> Self
         ensures value { λ r. ⌜ left r ≡ words 0 (now (line .entry)) ⌝ }
-        ensures end { λ r. ⌜ end r ≡ length (now (line .entry)) ⌝ }
+        ensures same { λ r. ⌜ now (r .line) ≡ now (line .entry) ⌝ }
     {
         Words { line, place: 0 }
     }

@@ -8,8 +8,9 @@ pub returns : need.returns
 returns c =
     let line = c .args .line .now in
     record {
-      value = c .event .ensures;
-      names = subst (Names line) (sym (c .event .ensures)) (event-named line);
+      value = c .event .ensures .value;
+      same = c .event .ensures .same;
+      names = subst (Names line) (sym (c .event .ensures .value)) (event-named line);
       steady = steady-event;
       reached = reached;
       worked = (refl, (refl, (refl, (refl, (refl, tt)))));
