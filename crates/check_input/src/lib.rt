@@ -76,11 +76,7 @@ fn check_end(rt: &LibcRuntime, checker: &mut LogChecker<'_>) -> io::Result<()>
     }
 }
 
-fn print_refused(
-    rt: &LibcRuntime,
-    line: u64,
-    answer: Result<LineKind, Refusal>,
-) -> io::Result<()> {
+fn print_refused(rt: &LibcRuntime, line: u64, answer: Result<LineKind, Refusal>) -> io::Result<()> {
     match answer {
         Ok(_) => Ok(()),
         Err(refusal) => rt.println(RefusedLine { line, refusal }),

@@ -1,15 +1,14 @@
 -- The answers given and those owed are the answers to the whole input.
 use mathlib.Core.Path.{_≡_, refl, sym, ap, _∙_}
-use mathlib.Core.List.{List, [], _∷_, _++_, map, append-assoc}
+use mathlib.Core.List.{List, [], _++_, map, append-assoc}
 use Prim.Native.Nat.{ℕ}
 use Rattle.std.specs.Options.{mapped}
 use Rattle.std.specs.Vec.{listOf}
 use Rattle.std.specs.declared.option.Option.{Option}
 use Rattle.std.specs.declared.option.Option.the-variants.{Some, None}
 use Rattle.std.proofs.shelf.Lists.{append-nil, map-append}
-use Rattle.lines.specs.Lines.{split}
 use Rattle.pieces.specs.Reader.{pending}
-use Rattle.pieces.specs.Reading.{kept, Outcome, due, next-line, last-line}
+use Rattle.pieces.specs.Reading.{kept, due, next-line, last-line}
 use Rattle.pieces.proofs.Due.{due-next, due-last}
 use Rattle.checker.specs.declared.checker.LogChecker.{LogChecker}
 use Rattle.checker.specs.Answers.{answer-to, answers, limit-of, owed, Checked, next-answer, last-answer, Has-read}

@@ -6,7 +6,7 @@
 --   next-answer c text       the same by definition
 --   Has-read c whole left       of the input so far, of which left is not looked at yet, the answers given are counted
 use mathlib.Core.Path.{_≡_}
-use mathlib.Core.List.{List, [], _++_, map}
+use mathlib.Core.List.{List, _++_, map}
 use Prim.Native.Nat.{ℕ, _<_, _≤_}
 use lib.ListN.{drop}
 use Rattle.std.specs.Options.{mapped}

@@ -1,7 +1,7 @@
 -- The texts of a report.
 --   refused-text r   what is told of a refused line
 --   tally-text t     what is told of all lines
-use mathlib.Core.List.{List, [], _∷_, _++_}
+use mathlib.Core.List.{List, _++_}
 use Prim.Native.Nat.{ℕ}
 use lib.Chars.{codes}
 use Rattle.std.specs.Written.{decimal}

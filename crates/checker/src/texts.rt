@@ -27,7 +27,10 @@ impl fmt::Display for FirstCounts as FirstCountsDisplay {
         let assign = self.0.assign;
         let decide = self.0.decide_and_or;
         let conflict = self.0.conflict;
-        write!(f, "lines {lines} assign {assign} decide-and-or {decide} conflict {conflict}")
+        write!(
+            f,
+            "lines {lines} assign {assign} decide-and-or {decide} conflict {conflict}"
+        )
     }
 }
 
@@ -40,7 +43,10 @@ impl fmt::Display for LastCounts as LastCountsDisplay {
         let begin = self.0.begin_check;
         let other = self.0.other;
         let refused = self.0.refused;
-        write!(f, "push {push} pop {pop} begin-check {begin} other {other} refused {refused}")
+        write!(
+            f,
+            "push {push} pop {pop} begin-check {begin} other {other} refused {refused}"
+        )
     }
 }
 

@@ -1,8 +1,8 @@
 -- The named literals of a line, one after the other.
 use mathlib.Core.Path.{_≡_, refl, sym, ap, subst, _∙_}
-use mathlib.Core.Bool.{Bool, true, false}
+use mathlib.Core.Bool.{true, false}
 use mathlib.Core.List.{List, [], _∷_}
-use Prim.Native.Nat.{ℕ, _<_, _≤_}
+use Prim.Native.Nat.{ℕ, _<_}
 use native.Mathlib.Omega.{arith}
 use lib.ListN.{length}
 use Rattle.std.specs.declared.option.Option.{Option}
@@ -10,13 +10,13 @@ use Rattle.std.specs.declared.option.Option.the-variants.{Some, None}
 use Rattle.std.specs.declared.result.Result.{Result}
 use Rattle.std.specs.declared.result.Result.the-variants.{Ok, Err}
 use Rattle.refusal.specs.declared.refusals.Refusal.{Refusal}
-use Rattle.words.specs.Words.{Placed, at}
+use Rattle.words.specs.Words.{Placed}
 use Rattle.events.specs.declared.shapes.LiteralWord.{LiteralWord}
 use Rattle.events.specs.declared.shapes.LiteralWord.the-variants as literal
 use Rattle.events.specs.declared.shapes.LineKind.{LineKind}
 use Rattle.events.specs.Lines.{passed}
 use Rattle.events.specs.Keywords.{literal-word, stripped}
-use Rattle.events.specs.Literals.{and-then, closed, after-not, begun-with, some-named, valued, Named, named, put-first, from-first, closing, literals-after, literals, next-of, next-literal, given, Shorter}
+use Rattle.events.specs.Literals.{and-then, closed, begun-with, some-named, valued, Named, named, put-first, from-first, closing, literals-after, literals, next-of, next-literal, given, Shorter}
 
 -- all literals are the next one and those after it
 abbrev Stepped : ℕ → List Placed → Result (List Named) Refusal → Result (Option (Named × List Placed)) Refusal → Type 0

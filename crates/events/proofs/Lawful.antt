@@ -13,7 +13,6 @@ use Rattle.std.specs.declared.result.Result.{Result}
 use Rattle.std.specs.declared.result.Result.the-variants.{Ok, Err}
 use Rattle.std.specs.shelf.Lists.{All}
 use Rattle.std.proofs.shelf.Lists.{length-take-le, take-take}
-use Rattle.refusal.specs.Refusals.{place-of}
 use Rattle.refusal.specs.declared.refusals.Refusal.{Refusal}
 use Rattle.words.specs.Words.{words, Placed, at, Stands}
 use Rattle.words.proofs.Around.{around}

@@ -1,18 +1,16 @@
 -- For each kind of event and all values that it may hold, a line that gives it: its words, each with a space after it.
-use mathlib.Core.Path.{_≡_, refl, sym, ap, subst, _∙_}
-use mathlib.Core.Bool.{Bool, true, false, cond, not, _&&_, _||_}
+use mathlib.Core.Path.{_≡_, refl, ap, _∙_}
+use mathlib.Core.Bool.{Bool, true, false, cond, not, _&&_}
 use mathlib.Core.List.{List, [], _∷_, _++_, map}
 use mir.Syntax.{w32}
 use mir.Val.{SFits}
 use Prim.Native.Nat.{ℕ, suc, _+_, _-_, _^_, _≤_, _<_}
 use native.Mathlib.Omega.{arith}
 use lib.Chars.{codes}
-use lib.Dec.{eqb, ltb, leb, lit<}
+use lib.Dec.{eqb, ltb, lit<}
 use lib.IntN.{ℤ, pos, negsuc}
 use lib.ListN.{length, take, drop, getD}
-use lib.Signed.{mag}
 use Rattle.std.specs.Written.{decimal, signed as written}
-use Rattle.std.specs.declared.option.Option.{Option}
 use Rattle.std.specs.declared.option.Option.the-variants.{Some, None}
 use Rattle.std.specs.declared.result.Result.{Result}
 use Rattle.std.specs.declared.result.Result.the-variants.{Ok, Err}
@@ -20,25 +18,24 @@ use Rattle.std.specs.shelf.Lists.{All}
 use Rattle.std.specs.shelf.Text.{sameBytes}
 use Rattle.std.proofs.shelf.Decimals.{decimal-some}
 use Rattle.std.proofs.shelf.Elements.{all-append}
-use Rattle.std.proofs.shelf.Lists.{length-append, length-push, getD-push, take-at}
+use Rattle.std.proofs.shelf.Lists.{length-push, getD-push, take-at}
 use Rattle.std.proofs.shelf.Tests.{not-true, and-parts, and-left, and-right, or-from, lt-ltb, le-leb, eq-eqb, ne-eqb}
-use Rattle.numbers.specs.Numeral.{numeral, signed}
+use Rattle.numbers.specs.Numeral.{numeral}
 use Rattle.numbers.proofs.Decimal.{decimal-all, decimal-first, numeral-decimal, signed-written}
 use Rattle.refusal.specs.declared.refusals.Refusal.{Refusal}
 use Rattle.refusal.specs.declared.refusals.Refusal.the-variants as refusal
-use Rattle.words.specs.Words.{separator, letter, Placed, at, words}
+use Rattle.words.specs.Words.{separator, letter, Placed, at}
 use Rattle.words.proofs.Places.{Plain}
 use Rattle.words.proofs.Spaced.{spaced, placed, One-word, words-spaced}
-use Rattle.events.specs.declared.shapes.LiteralWord.the-variants as literal
 use Rattle.events.specs.declared.shapes.Mode.{Mode}
 use Rattle.events.specs.declared.shapes.Mode.the-variants as mode
 use Rattle.events.specs.declared.shapes.Reason.{Reason}
 use Rattle.events.specs.declared.shapes.Reason.the-variants as reason
 use Rattle.events.specs.declared.shapes.SolverLiteral.{SolverLiteral}
 use Rattle.events.specs.declared.shapes.SolverLiteral.the-variants as lit
-use Rattle.events.specs.Keywords.{literal-word, stripped, unprefixed}
+use Rattle.events.specs.Keywords.{stripped, unprefixed}
 use Rattle.events.specs.Laws.{Id, In-range-literal, In-range, unplaced, all-unplaced, Reached}
-use Rattle.events.specs.Lines.{Said, other, assign, decide-and-or, conflict, push, pop, begin-check, at-least, integer, assigned, said, event-of}
+use Rattle.events.specs.Lines.{assign, decide-and-or, conflict, push, pop, begin-check, at-least, integer, assigned, said, event-of}
 use Rattle.events.specs.Literals.{and-then, Named, valued, closed, begun-with, some-named, named, numbered, signed-by, after-p, with-rest, solver, put-first, from-first, closing, literals-after, literals}
 use Rattle.events.specs.Reasons.{ended, theory-number, before-colon, reason-of}
 

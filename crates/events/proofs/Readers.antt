@@ -1,8 +1,8 @@
 -- Each reader of words refuses at the first word at fault, whatever follows it.
-use mathlib.Core.Path.{_≡_, refl, sym, ap, subst, _∙_}
+use mathlib.Core.Path.{_≡_, refl, sym, subst}
 use mathlib.Core.Bool.{Bool, true, false, cond}
-use mathlib.Core.List.{List, [], _∷_, _++_}
-use mathlib.Core.Logic.{inl, inr}
+use mathlib.Core.List.{List, [], _∷_}
+use mathlib.Core.Logic.{inl}
 use Prim.Native.Nat.{ℕ, _^_, _-_}
 use lib.Chars.{codes}
 use lib.Dec.{eqb, leb}
@@ -28,8 +28,8 @@ use Rattle.events.specs.declared.shapes.Reason.the-variants as reason
 use Rattle.events.specs.declared.shapes.SolverLiteral.{SolverLiteral}
 use Rattle.events.specs.declared.shapes.SolverLiteral.the-variants as lit
 use Rattle.events.specs.Keywords.{keyword-of, kind-of, literal-word, stripped, unprefixed}
-use Rattle.events.specs.Lines.{Said, other, assign, decide-and-or, conflict, push, pop, begin-check, at-least, integer, assigned, by-kind, said, passed, finished, completed}
-use Rattle.events.specs.Literals.{Read, and-then, Named, valued, closed, after-not, begun-with, some-named, named, numbered, variable, signed-by, bare, after-p, p-literal, with-rest, prefixed, by-mode, solver, put-first, from-first, closing, literals-after, literals}
+use Rattle.events.specs.Lines.{Said, other, assign, decide-and-or, conflict, push, pop, begin-check, at-least, integer, assigned, by-kind, said, passed, finished}
+use Rattle.events.specs.Literals.{Read, and-then, Named, valued, closed, after-not, begun-with, some-named, named, numbered, variable, signed-by, bare, after-p, p-literal, with-rest, by-mode, solver, put-first, from-first, closing, literals-after, literals}
 use Rattle.events.specs.Reasons.{ended, decided, theory-number, before-colon, theory, by-keyword, reason-of}
 use Rattle.events.proofs.Blame.{Reader, Sure, Sure-past, Any, Took, At, headed-any, headed-took, onward, then-any, turned-took, kept-any, then-past, refused-past, cond-past, took-past, fixed-took, fixed-any}
 

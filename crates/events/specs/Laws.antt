@@ -6,7 +6,7 @@
 --   Reached          for each kind of event and all values that it may hold there is a line that gives it
 use mathlib.Core.Path.{_≡_}
 use mathlib.Core.Bool.{Bool, true, false}
-use mathlib.Core.List.{List, [], _∷_, _++_, map}
+use mathlib.Core.List.{List, _++_, map}
 use mathlib.Core.Logic.{_⊎_}
 use mir.Syntax.{w32}
 use mir.Val.{SFits}

@@ -3,7 +3,7 @@
 --   number-of-case s    the number of the case, 0 to 6; number-of-kind k the same of a kind of line
 --   event-of line       what the line says, as far as it can be read before a book is asked
 --   line-kind mode line the kind of the line, once all of it is read
-use mathlib.Core.Bool.{Bool, cond}
+use mathlib.Core.Bool.{cond}
 use mathlib.Core.List.{List, [], _∷_}
 use Prim.Native.Nat.{ℕ, _^_, _-_}
 use lib.Dec.{leb}

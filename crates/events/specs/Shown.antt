@@ -18,9 +18,7 @@ use Rattle.words.specs.Left.{left, end, word-of}
 use Rattle.words.specs.Words.{Placed, at}
 use Rattle.events.specs.declared.shapes.Event.{Event}
 use Rattle.events.specs.declared.shapes.Event.the-variants as event
-use Rattle.events.specs.declared.shapes.Literals.{Literals}
 use Rattle.events.specs.declared.shapes.NamedLiteral.{NamedLiteral}
-use Rattle.events.specs.declared.shapes.SolverLiteral.{SolverLiteral}
 use Rattle.events.specs.Lines as line
 use Rattle.events.specs.Lines.{Said}
 use Rattle.events.specs.Literals.{Read, Named, valued}

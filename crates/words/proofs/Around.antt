@@ -1,14 +1,14 @@
 -- A word among the words of a text: what stands before it, and that what follows does not matter to it.
 use mathlib.Core.Path.{_≡_, refl, sym, ap, subst, _∙_}
-use mathlib.Core.Bool.{Bool, true, false}
+use mathlib.Core.Bool.{false}
 use mathlib.Core.List.{List, [], _∷_, _++_, append-assoc}
 use mathlib.Core.Logic.{⊎-elim}
-use Prim.Native.Nat.{ℕ, suc, _+_, _<_, _≤_}
+use Prim.Native.Nat.{ℕ, _+_, _<_}
 use native.Mathlib.Omega.{arith}
 use lib.ListN.{length}
 use Rattle.std.proofs.shelf.Lists.{length-append}
 use Rattle.std.proofs.shelf.Tests.{cases-lt}
-use Rattle.words.specs.Words.{separator, next-word, Cut, Placed, at, starts, words}
+use Rattle.words.specs.Words.{next-word, Placed, at, starts, words}
 use Rattle.words.proofs.Leads.{next-word-cuts}
 use Rattle.words.proofs.Places.{Blank, Plain, next-passed, cut-none, starts-none}
 

@@ -12,7 +12,7 @@ use borrow.Author.Needs.{needs}
 use Rattle.std.proofs.shelf.Lists.{length-append, append-nil, length-drop, take-append-drop, drop-at, drop-drop, same-lists, places}
 use Rattle.std.proofs.shelf.Elements.{all-weaker}
 use Rattle.std.proofs.shelf.Tests.{not-true, false≢true, cond-both, eq-eqb, ne-eqb, cases-lt}
-use Rattle.words.specs.Words.{separator, letter, Cut, Placed, at, starts, begun, words, words-by, Stands}
+use Rattle.words.specs.Words.{separator, Cut, Placed, at, starts, begun, words, words-by, Stands}
 
 abbrev pub Blank : List ℕ → Type 0
 Blank = All (λ b. separator b ≡ true)

@@ -1,4 +1,3 @@
-use mathlib.Core.Path.{ap}
 use lib.ListN.{drop}
 use Rattle.checker.proofs.Owed.{reads-next}
 use Rattle.checker.proofs.checker.LogChecker.next.Needs as need
