@@ -1,10 +1,13 @@
 -- The answers to the lines of a log that comes in pieces.
---   answer-to mode o            the answer-to to a line that the reader found, or found too long
+--   answer-to mode o         the answer to a line that the reader found, or found too long
 --   answers mode limit text  the answers to all lines of a text
+--   limit-of c               the most bytes that a line may have
 --   owed c text              the answers that are still to come from a text, from the line at hand on
---   checked r piece c        a step: its answer-to, the line at hand after it and what is left of the piece
---   next-answer c text       the same by definition
---   Has-read c whole left       of the input so far, of which left is not looked at yet, the answers given are counted
+--   next-answer c text       a step over a text: its answer, if a line ends there, the line at hand after it and the text left
+--   last-answer c            the answer to the line at hand at the input's end, if there is one
+--   checked r piece c        the step that the program made
+--   Goes-on                  a step with an answer takes at least a byte off the piece
+--   Has-read c whole left    of the input so far, of which left is not looked at yet, the answers given are counted
 use mathlib.Core.Path.{_≡_}
 use mathlib.Core.List.{List, _++_, map}
 use Prim.Native.Nat.{ℕ, _<_, _≤_}

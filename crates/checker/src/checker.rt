@@ -12,7 +12,7 @@ pub struct LogChecker<'c> {
 }
 
 impl LogChecker<'_> {
-    // The lines so far.
+    // How many lines of each kind there were so far.
     pub fn tally(&self) -> Tally
         ensures { λ r. ⌜ r ≡ now (self .entry) .tally ⌝ }
     {

@@ -11,7 +11,7 @@ pub enum TableName {
     Answer,
 }
 
-// Where the word at fault matters the refusal holds the place of its first byte in the line, counted from 0.
+// A refusal that blames a word holds the place of its first byte, one that misses a word the line's length.
 #[derive(Clone, Copy, Debug, PartialEq, Eq)]
 pub enum Refusal {
     // The text.
