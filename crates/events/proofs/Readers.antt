@@ -12,7 +12,7 @@ use Rattle.std.specs.declared.option.Option.the-variants.{Some, None}
 use Rattle.std.specs.declared.result.Result.{Result}
 use Rattle.std.specs.declared.result.Result.the-variants.{Ok, Err}
 use Rattle.std.specs.shelf.Text.{sameBytes}
-use Rattle.numbers.specs.Numeral.{numeral, signed}
+use Rattle.numbers.specs.Numeral.{numeral, signed-numeral}
 use Rattle.refusal.specs.declared.refusals.Refusal.{Refusal}
 use Rattle.refusal.specs.declared.refusals.Refusal.the-variants as refusal
 use Rattle.words.specs.Words.{Placed, at}
@@ -123,7 +123,7 @@ theory-at p (Some z) = tt
 
 before-colon-at : (p : ℕ) (o : Option (List ℕ)) → At p (before-colon p o)
 before-colon-at p None = refl
-before-colon-at p (Some w) = theory-at p (signed w)
+before-colon-at p (Some w) = theory-at p (signed-numeral w)
 
 theory-sure : (e : ℕ) (ws : List Placed) → Sure Any theory e ws (theory e ws)
 theory-sure e [] = inl refl

@@ -11,7 +11,7 @@ use Rattle.std.specs.declared.option.Option.the-variants.{Some, None}
 use Rattle.std.specs.declared.result.Result.{Result}
 use Rattle.std.specs.declared.result.Result.the-variants.{Ok, Err}
 use Rattle.std.specs.shelf.Text.{sameBytes}
-use Rattle.numbers.specs.Numeral.{signed}
+use Rattle.numbers.specs.Numeral.{signed-numeral}
 use Rattle.refusal.specs.declared.refusals.Refusal.{Refusal}
 use Rattle.refusal.specs.declared.refusals.Refusal.the-variants as refusal
 use Rattle.words.specs.Words.{Placed}
@@ -37,7 +37,7 @@ theory-number p (Some z) = Ok (reason.Theory z)
 
 abbrev pub before-colon : ℕ → Option (List ℕ) → Result Reason Refusal
 before-colon p None = Err (refusal.MissingColonJustification p)
-before-colon p (Some w) = theory-number p (signed w)
+before-colon p (Some w) = theory-number p (signed-numeral w)
 
 abbrev pub theory : ℕ → List Placed → Result Reason Refusal
 theory end [] = Err (refusal.UnexpectedNewline end)

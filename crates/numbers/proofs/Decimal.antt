@@ -19,7 +19,7 @@ use Rattle.std.proofs.shelf.Decimals.{decimal-some, digits-decimal, value-decim
 use Rattle.std.proofs.shelf.Elements.{all-from-getD}
 use Rattle.std.proofs.shelf.Numerals.{Numerals, numerals-by-fold, tells-allDigits, digit-at}
 use Rattle.std.proofs.shelf.Tests.{and-from, cond-true}
-use Rattle.numbers.specs.Numeral.{value-after, unsigned, numeral, signed}
+use Rattle.numbers.specs.Numeral.{value-after, unsigned, after-plus, numeral, signed-numeral}
 use Rattle.numbers.proofs.Values.{not-empty, after-plus-none, signed-plain}
 
 -- `allDigits` and `value-after 0` are the shelf's digits and their value
@@ -60,12 +60,14 @@ unsigned-decimal limit n fits le =
     not-empty limit (decimal n) (decimal-some n h)
     ∙ cond-true _ _ _ (and-from _ _ (decimal-digits n h) within) ∙ ap Some value
 
-pub numeral-decimal : (limit n : ℕ) → limit < 2 ^ 64 → n ≤ limit → numeral limit (decimal n) ≡ Some n
-numeral-decimal limit n fits le =
-    let first = decimal-first n (omega arith) in
-    ap (unsigned limit) (after-plus-none (decimal n) (λ e. omega arith)) ∙ unsigned-decimal limit n fits le
+-- a decimal text has no sign in front
+pub after-plus-decimal : (n : ℕ) → n < 2 ^ 64 → after-plus (decimal n) ≡ decimal n
+after-plus-decimal n h = let first = decimal-first n h in after-plus-none (decimal n) (λ e. omega arith)
 
-pub signed-written : (z : ℤ) → SFits w32 z → signed (written z) ≡ Some z
+pub numeral-decimal : (limit n : ℕ) → limit < 2 ^ 64 → n ≤ limit → numeral limit (decimal n) ≡ Some n
+numeral-decimal limit n fits le = ap (unsigned limit) (after-plus-decimal n (omega arith)) ∙ unsigned-decimal limit n fits le
+
+pub signed-written : (z : ℤ) → SFits w32 z → signed-numeral (written z) ≡ Some z
 signed-written (pos n) h =
     let lt : n < 2 ^ 31 = h .sfits in
     let first = decimal-first n (omega arith) in

@@ -4,7 +4,8 @@
 --   unsigned limit cs         the number that one digit or more write, within the limit
 --   after-plus cs             cs without the plus sign in front, if there is one
 --   numeral limit cs          the number that one digit or more write after at most one plus sign
---   signed cs                 the number of 32 bits that digits write after at most one sign
+--   signed-numeral cs                 the number of 32 bits that digits write after at most one sign
+--   signed-by cs ds           the same, where ds are the bytes after a minus sign in front of cs, if there is one
 use mathlib.Core.Bool.{cond, _&&_}
 use mathlib.Core.List.{List, [], _∷_}
 use Prim.Native.Nat.{ℕ, _+_, _*_, _-_, _^_}
@@ -33,7 +34,11 @@ after-plus (c ∷ cs) = cond (eqb c 43) cs (c ∷ cs)
 abbrev pub numeral : ℕ → List ℕ → Option ℕ
 numeral limit cs = unsigned limit (after-plus cs)
 
-abbrev pub signed : List ℕ → Option ℤ
-signed [] = None
-signed (c ∷ cs) =
+abbrev pub signed-by : List ℕ → Option (List ℕ) → Option ℤ
+signed-by cs (Some ds) = mapped (λ n. negℤ (pos n)) (unsigned (2 ^ 31) ds)
+signed-by cs None = mapped pos (numeral (2 ^ 31 - 1) cs)
+
+abbrev pub signed-numeral : List ℕ → Option ℤ
+signed-numeral [] = None
+signed-numeral (c ∷ cs) =
     cond (eqb c 45) (mapped (λ n. negℤ (pos n)) (unsigned (2 ^ 31) cs)) (mapped pos (numeral (2 ^ 31 - 1) (c ∷ cs)))

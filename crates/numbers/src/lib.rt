@@ -2,15 +2,19 @@
 //
 // One sign may stand in front, zeros may lead, and a number past the limit is refused.
 ghost use mathlib.Core.Path.{_≡_};
-ghost use Prim.Native.Nat.{ℕ, _+_, _*_, _-_, _^_, _≤_};
+ghost use mathlib.Core.Bool.{true, cond};
+ghost use Prim.Native.Nat.{ℕ, _+_, _*_, _-_, _^_, _≤_, _<_};
+ghost use lib.Dec.{eqb};
 ghost use lib.IntN.{ℤ, pos, negℤ};
+ghost use lib.ListN.{length};
 ghost use mir.Syntax.{w32};
 ghost use mir.Val.{SFits};
 ghost use Rattle.std.specs.Numbers.{Checked};
 ghost use Rattle.std.specs.Options.{mapped};
 ghost use Rattle.std.specs.Written.{decimal, signed as written};
-ghost use Rattle.std.specs.declared.option.Option.the-variants.{Some};
-ghost use Rattle.numbers.specs.Numeral.{after-plus, numeral, unsigned, signed};
+ghost use Rattle.std.specs.declared.option.Option.the-variants.{Some, None};
+ghost use Rattle.std.specs.Text.{asciiDigit};
+ghost use Rattle.numbers.specs.Numeral.{after-plus, numeral, unsigned, signed-numeral, signed-by};
 
 // The number that the text writes, with at most one `+` in front.
 pub fn number(text: &[u8], limit: u64) -> Option<u64>
@@ -25,23 +29,29 @@ pub fn digits(text: &[u8], limit: u64) -> Option<u64>
     ensures value { λ r. ⌜ r ≡ unsigned limit (now (text .entry)) ⌝ }
     ensures laws { λ _. ⌜ ((n : ℕ) → n ≤ limit → unsigned limit (decimal n) ≡ Some n) ⌝ }
 {
+    let value = value_of(text, limit);
+    if text.is_empty() { None } else { value }
+}
+
+// The value of digits alone; no digits at all count as 0.
+fn value_of(text: &[u8], limit: u64) -> Option<u64>
+    ensures value { λ r. ⌜ cond (eqb (length (now (text .entry))) 0) None r ≡ unsigned limit (now (text .entry)) ⌝ }
+    ensures laws { λ _. ⌜ ((n : ℕ) → n ≤ limit → unsigned limit (decimal n) ≡ Some n) ⌝ }
+{
     let mut value: u64 = 0;
     for b in text {
-        if !b.is_ascii_digit() {
-            return None;
-        }
-        let digit = u64::from(*b - b'0');
-        match grown(value, digit, limit) {
+        match grown(value, *b, limit) {
             Some(more) => value = more,
             None => return None,
         }
     }
-    if text.is_empty() { None } else { Some(value) }
+    Some(value)
 }
 
 // The text without one `+` in front.
 fn after_plus(text: &[u8]) -> &[u8]
-    ensures { λ r. ⌜ now r ≡ after-plus (now (text .entry)) ⌝ }
+    ensures value { λ r. ⌜ now r ≡ after-plus (now (text .entry)) ⌝ }
+    ensures laws { λ _. ⌜ ((n : ℕ) → n < 2 ^ 64 → after-plus (decimal n) ≡ decimal n) ⌝ }
 {
     if !text.is_empty() && text[0] == b'+' {
         &text[1..]
@@ -50,11 +60,14 @@ fn after_plus(text: &[u8]) -> &[u8]
     }
 }
 
-// The value with one digit more, unless it is past the limit.
-fn grown(value: u64, digit: u64, limit: u64) -> Option<u64>
-    ensures { λ r. ⌜ Checked r (value * 10 + digit ≤ limit) (value * 10 + digit) ⌝ }
+// The value with one digit more, unless the byte is none or the value is past the limit.
+fn grown(value: u64, b: u8, limit: u64) -> Option<u64>
+    ensures { λ r. ⌜ Checked r ((asciiDigit b ≡ true) × (value * 10 + (b - 48) ≤ limit)) (value * 10 + (b - 48)) ⌝ }
 {
-    let more = value.checked_mul(10)?.checked_add(digit)?;
+    if !b.is_ascii_digit() {
+        return None;
+    }
+    let more = value.checked_mul(10)?.checked_add(u64::from(b - b'0'))?;
     if more <= limit { Some(more) } else { None }
 }
 
@@ -75,13 +88,24 @@ pub fn number_u32(text: &[u8]) -> Option<u32>
 
 // The number that the text writes, with at most one `+` or `-` in front.
 pub fn number_i32(text: &[u8]) -> Option<i32>
-    ensures value { λ r. ⌜ r ≡ signed (now (text .entry)) ⌝ }
-    ensures laws { λ _. ⌜ ((z : ℤ) → SFits w32 z → signed (written z) ≡ Some z) ⌝ }
+    ensures value { λ r. ⌜ r ≡ signed-numeral (now (text .entry)) ⌝ }
+    ensures laws { λ _. ⌜ ((z : ℤ) → SFits w32 z → signed-numeral (written z) ≡ Some z) ⌝ }
+{
+    match after_minus(text) {
+        Some(text) => negative(text),
+        None => positive(text),
+    }
+}
+
+// What follows a minus sign in front, if there is one.
+fn after_minus(text: &[u8]) -> Option<&[u8]>
+    ensures value { λ r. ⌜ signed-by (now (text .entry)) (mapped now r) ≡ signed-numeral (now (text .entry)) ⌝ }
+    ensures laws { λ _. ⌜ ((z : ℤ) → SFits w32 z → signed-numeral (written z) ≡ Some z) ⌝ }
 {
     if !text.is_empty() && text[0] == b'-' {
-        negative(&text[1..])
+        Some(&text[1..])
     } else {
-        positive(text)
+        None
     }
 }
 

@@ -2,10 +2,10 @@
 //
 // An entry goes by its key, its place from 0. Contracts speak of the entries and the room alone, never of the cells.
 ghost use mathlib.Core.Path.{_≡_};
-ghost use mathlib.Core.List.{[]};
+ghost use mathlib.Core.List.{List, []};
 ghost use lib.ListN.{length, set, take};
 ghost use Rattle.std.specs.Runs.{nth};
-ghost use Rattle.table.specs.Held.{held, room, pushed};
+ghost use Rattle.table.specs.Held.{held, room, pushed, added};
 
 // The table has no room for another entry.
 #[derive(Clone, Copy, Debug, PartialEq)]
@@ -41,14 +41,13 @@ impl<'a, T: Copy> Table<'a, T> {
     pub fn entries(&self) -> &[T]
         ensures { λ r. ⌜ now r ≡ held (now (self .entry)) ⌝ }
     {
-        let count = self.count.min(self.cells.len());
-        &self.cells[0..count]
+        front(self.cells, self.count)
     }
 
     pub fn get(&self, key: usize) -> Option<T>
         ensures { λ r. ⌜ r ≡ nth (held (now (self .entry))) key ⌝ }
     {
-        self.entries().get(key).copied()
+        item_at(self.entries(), key)
     }
 
     // Adds an entry, and answers its key.
@@ -57,11 +56,7 @@ impl<'a, T: Copy> Table<'a, T> {
         ensures room { λ _. ⌜ room (now (self .exit)) ≡ room (now (self .entry)) ⌝ }
     {
         let key = self.count;
-        if key >= self.cells.len() {
-            return Err(Full);
-        }
-        self.cells[key] = item;
-        self.count = key + 1;
+        self.count = write_next(self.cells, key, item)?;
         Ok(key)
     }
 
@@ -72,9 +67,8 @@ impl<'a, T: Copy> Table<'a, T> {
         ensures room { λ _. ⌜ room (now (self .exit)) ≡ room (now (self .entry)) ⌝ }
     {
         let old = self.get(key);
-        if key < self.count.min(self.cells.len()) {
-            self.cells[key] = item;
-        }
+        let count = self.count;
+        write_over(self.cells, count, key, item);
         old
     }
 
@@ -83,7 +77,49 @@ impl<'a, T: Copy> Table<'a, T> {
         ensures held { λ _. ⌜ held (now (self .exit)) ≡ take count (held (now (self .entry))) ⌝ }
         ensures room { λ _. ⌜ room (now (self .exit)) ≡ room (now (self .entry)) ⌝ }
     {
-        self.count = count.min(self.count);
+        self.count = Self::fewer(count, self.count);
+    }
+
+    // The lesser number of entries.
+    fn fewer(a: usize, b: usize) -> usize
+        ensures { λ r. ⌜ ((xs : List T) → take r xs ≡ take a (take b xs)) ⌝ }
+    {
+        a.min(b)
+    }
+}
+
+// The first `count` cells, or all of them where `count` is past the end.
+fn front<T>(cells: &[T], count: usize) -> &[T]
+    ensures { λ r. ⌜ now r ≡ take count (now (cells .entry)) ⌝ }
+{
+    &cells[..count.min(cells.len())]
+}
+
+fn item_at<T: Copy>(items: &[T], place: usize) -> Option<T>
+    ensures { λ r. ⌜ r ≡ nth (now (items .entry)) place ⌝ }
+{
+    items.get(place).copied()
+}
+
+// Writes the cell after the first `count`, and answers the count with that cell.
+fn write_next<T: Copy>(cells: &mut [T], count: usize, item: T) -> Result<usize, Full>
+    ensures after { λ r. ⌜ added r count (now (cells .exit)) ≡ pushed (take count (now (cells .entry))) (length (now (cells .entry))) item ⌝ }
+    ensures room { λ _. ⌜ length (now (cells .exit)) ≡ length (now (cells .entry)) ⌝ }
+{
+    if count >= cells.len() {
+        return Err(Full);
+    }
+    cells[count] = item;
+    Ok(count + 1)
+}
+
+// Writes one of the first `count` cells.
+fn write_over<T: Copy>(cells: &mut [T], count: usize, place: usize, item: T)
+    ensures after { λ _. ⌜ take count (now (cells .exit)) ≡ set (take count (now (cells .entry))) place item ⌝ }
+    ensures room { λ _. ⌜ length (now (cells .exit)) ≡ length (now (cells .entry)) ⌝ }
+{
+    if place < count.min(cells.len()) {
+        cells[place] = item;
     }
 }
 

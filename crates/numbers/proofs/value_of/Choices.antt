@@ -2,7 +2,7 @@ use mathlib.Core.Path.{_≡_}
 use Prim.Native.Nat.{_≤_}
 use lib.ListN.{drop}
 use Rattle.numbers.specs.Numeral.{digits-after}
-use Rattle.numbers.proofs.digits.Given as given
+use Rattle.numbers.proofs.value_of.Given as given
 
 -- what is left, after the value so far, gives the answer
 abbrev pub Inv-loop-b : given.InvT-loop-b
