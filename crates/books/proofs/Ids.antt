@@ -1,4 +1,4 @@
--- Numbered identifiers are the number sign with a decimal text. Assumes nothing.
+-- Numbered identifiers are the number sign with a decimal text.
 use mathlib.Core.Path.{_≡_, refl, sym, ap, _∙_}
 use mathlib.Core.Bool.{true, _&&_, _||_, not}
 use mathlib.Core.List.{List, [], _∷_}
@@ -6,21 +6,15 @@ use mathlib.Core.Logic.{⊎-elim}
 use Prim.Native.Nat.{ℕ, _-_, _<_, _^_}
 use native.Mathlib.Omega.{arith}
 use lib.Dec.{eqb, ltb}
-use lib.ListN.{length, take, drop, getD}
+use lib.ListN.{length, getD}
 use Rattle.std.specs.Written.{decimal}
 use Rattle.std.specs.declared.option.Option.the-variants.{Some, None}
 use Rattle.std.proofs.shelf.Decimals.{decimal-some, decimal-digit, first-decimal, decimal-value}
-use Rattle.std.proofs.shelf.Lists.{take-rest}
 use Rattle.std.proofs.shelf.Tests.{lt-ltb, ltb-true, eq-eqb, ne-eqb, eqb-true, eqb-false, and-parts, and-from, and-right, or-cases, or-left, or-right, not-from-false, not-true, cases-bool, cases-eq, cond-true}
 use Rattle.numbers.specs.Numeral.{unsigned, value-after}
 use Rattle.numbers.proofs.Decimal.{own, unsigned-decimal}
 use Rattle.numbers.proofs.Values.{unsigned-some}
 use Rattle.books.specs.Terms.{shape, numbered, NumberedLaws}
-
--- the digits as `&id[1..]` has them
-pub numbered-is : (limit : ℕ) (id : List ℕ) → 0 < limit → shape id ≡ true → numbered limit id ≡ unsigned (limit - 1) (take (length id - 1) (drop 1 id))
-numbered-is limit id some good =
-    cond-true _ _ _ (and-from _ _ (lt-ltb 0 limit some) good) ∙ ap (unsigned (limit - 1)) (sym (take-rest id 1))
 
 -- no zero stands in front of another digit
 front : (n : ℕ) → n < 2 ^ 64 → (eqb (length (35 ∷ decimal n)) 2 || not (eqb (getD (decimal n) 0 0) 48)) ≡ true

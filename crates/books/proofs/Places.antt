@@ -1,4 +1,4 @@
--- The first place of a line among lines. Assumes nothing.
+-- The first place of a line among lines.
 use mathlib.Core.Path.{_≡_, refl, sym, ap, _∙_}
 use mathlib.Core.Bool.{true, false}
 use mathlib.Core.List.{List, [], _∷_}

@@ -1,4 +1,4 @@
--- Which term an identifier means. Assumes nothing.
+-- Which term an identifier means.
 --   shape id                a number sign, then digits of which no zero stands in front of another
 --   numbered limit id       the number below the limit that the identifier writes after its number sign
 --   NumberedLaws limit      the identifiers of `numbered` are the number sign with the decimal text of a number below the limit

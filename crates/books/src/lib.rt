@@ -28,8 +28,15 @@ impl Numbered {
         ensures value { λ r. ⌜ r .limit ≡ limit ⌝ }
         ensures laws { λ _. ⌜ NumberedLaws limit ⌝ }
     {
-        Numbered { limit }
+        numbered_below(limit)
     }
+}
+
+// What `Numbered::new` makes, apart from the laws of it.
+fn numbered_below(limit: usize) -> Numbered
+    ensures { λ r. ⌜ r .limit ≡ limit ⌝ }
+{
+    Numbered { limit }
 }
 
 pub impl Book for Numbered as NumberedBook {
@@ -46,7 +53,8 @@ fn number_of(limit: usize, id: &[u8]) -> Option<usize>
     if limit == 0 || !is_numbered(id) {
         return None;
     }
-    match numbers::digits(&id[1..], (limit - 1) as u64) {
+    let (_, digits) = id.split_at(1);
+    match numbers::digits(digits, (limit - 1) as u64) {
         Some(term) => Some(term as usize),
         None => None,
     }
@@ -69,8 +77,15 @@ impl<'a> Listed<'a> {
         ensures value { λ r. ⌜ now (r .text) ≡ now (text .entry) ⌝ }
         ensures laws { λ _. ⌜ ListedLaws (now (text .entry)) ⌝ }
     {
-        Listed { text }
+        listed_in(text)
     }
+}
+
+// What `Listed::new` makes, apart from the laws of it.
+fn listed_in<'a>(text: &'a [u8]) -> Listed<'a>
+    ensures { λ r. ⌜ now (r .text) ≡ now (text .entry) ⌝ }
+{
+    Listed { text }
 }
 
 pub impl<'a> Book for Listed<'a> as ListedBook {

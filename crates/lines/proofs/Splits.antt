@@ -1,18 +1,18 @@
--- Lines of a text and its first line. Assumes nothing.
+-- Lines of a text and its first line.
 use mathlib.Core.Path.{_≡_, refl, sym, ap, subst, _∙_}
 use mathlib.Core.Bool.{Bool, true, false, cond, not}
 use mathlib.Core.List.{List, [], _∷_, _++_}
 use Prim.Native.Nat.{ℕ, suc, _+_, _<_, _≤_}
 use native.Mathlib.Numerals.{one-add, add-one}
 use native.Mathlib.Omega.{arith}
-use lib.Dec.{eqb}
-use lib.ListN.{length, take, drop}
-use Rattle.std.specs.shelf.Lists.{leading, All}
+use lib.Dec.{eqb, ltb}
+use lib.ListN.{length, take, drop, getD}
+use Rattle.std.specs.shelf.Lists.{All}
 use Rattle.std.specs.declared.option.Option.the-variants.{Some, None}
 use Rattle.std.proofs.shelf.Lists.{append-assoc, length-drop, take-append-drop, take-all}
-use Rattle.std.proofs.shelf.Sums.{leading-le-length}
-use Rattle.std.proofs.shelf.Tests.{eqb-true}
-use Rattle.lines.specs.Lines.{feed, Plain, onto, split, line-len, after-line, first-line, ended, closed, Cut, Laws}
+use Rattle.std.proofs.shelf.Sums.{leading-le-length, leading-drop-yes, leading-drop-no, leading-drop-all}
+use Rattle.std.proofs.shelf.Tests.{eqb-true, ne-eqb, le-ltb, cond-false}
+use Rattle.lines.specs.Lines.{feed, Plain, onto, split, line-len, end-from, after-line, first-line, unless-empty, ended, closed, Cut, Laws}
 
 -- a first line that its 0x0A ends
 pub split-feed : (xs ys : List ℕ) → Plain xs → split (xs ++ 10 ∷ ys) ≡ xs ∷ split ys
@@ -124,18 +124,33 @@ first-cuts [] = refl
 first-cuts (b ∷ bs) =
     (split-first b bs, omega (arith, length-drop (line-len (b ∷ bs) + 1) (b ∷ bs)))
 
-pub first-line-some : (text : List ℕ) → 0 < length text → first-line text ≡ Some (take (line-len text) text, after-line text)
-first-line-some [] some = absurd (omega arith)
-first-line-some (b ∷ bs) some = refl
-
 pub line-len-le : (text : List ℕ) → line-len text ≤ length text
 line-len-le text = leading-le-length (λ b. not (feed b)) text
 
-pub first-line-parts : (text line rest : List ℕ) → 0 < length text → line ≡ take (line-len text) text → rest ≡ after-line text
-    → (Some (line, rest) ≡ first-line text) × Cut text (Some (line, rest))
-first-line-parts text line rest some front back =
-    let is : Some (line, rest) ≡ first-line text = ap Some (λ i. (front i, back i)) ∙ sym (first-line-some text some) in
-    (is, subst (Cut text) (sym is) (first-cuts text))
+first-line-by : (text line rest : List ℕ) → line ≡ take (line-len text) text → rest ≡ after-line text → first-line text ≡ unless-empty text (line, rest)
+first-line-by [] line rest front back = refl
+first-line-by (b ∷ bs) line rest front back =
+    ap Some (λ i. (sym front i, sym back i))
+    ∙ sym (cond-false (eqb (length (b ∷ bs)) 0) None (Some (line, rest)) (ne-eqb (length (b ∷ bs)) 0 (λ e. omega arith)))
+
+pub first-line-parts : (text line rest : List ℕ) → line ≡ take (line-len text) text → rest ≡ after-line text
+    → (first-line text ≡ unless-empty text (line, rest)) × Cut text (unless-empty text (line, rest))
+first-line-parts text line rest front back =
+    let is = first-line-by text line rest front back in
+    (is, subst (Cut text) is (first-cuts text))
+
+-- the end of the first line, looked for from a place on
+end-step : (t : Bool) (text : List ℕ) (n : ℕ) → n < length text → not (feed (getD text n 0)) ≡ t → end-from n text ≡ cond t (end-from (n + 1) text) n
+end-step true text n lt e = omega (arith, leading-drop-yes (λ b. not (feed b)) text n 0 lt e)
+end-step false text n lt e = omega (arith, leading-drop-no (λ b. not (feed b)) text n 0 lt e)
+
+pub end-within : (text : List ℕ) (n : ℕ) → n < length text → end-from n text ≡ cond (not (feed (getD text n 0))) (end-from (n + 1) text) n
+end-within text n lt = end-step (not (feed (getD text n 0))) text n lt refl
+
+pub end-past : (text : List ℕ) (n : ℕ) → length text ≤ n → end-from n text ≡ cond (ltb n (length text)) (end-from (n + 1) text) n
+end-past text n le =
+    let here : end-from n text ≡ n = omega (arith, leading-drop-all (λ b. not (feed b)) text n le) in
+    here ∙ sym (cond-false (ltb n (length text)) (end-from (n + 1) text) n (le-ltb n (length text) le))
 
 -- a text that begins with bytes of its first line
 pub take-line : (xs ys : List ℕ) → Plain xs → take (line-len (xs ++ ys)) (xs ++ ys) ≡ xs ++ take (line-len ys) ys

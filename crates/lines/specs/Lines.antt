@@ -1,15 +1,17 @@
--- A text as lines, cut at the byte 0x0A alone. Assumes nothing.
--- feed: the byte is 0x0A
--- Plain: no byte is 0x0A
--- split: the lines of a text: an empty text has none, and what follows the last 0x0A is a line unless it is empty
--- line-len: how many bytes stand before the first 0x0A
--- after-line: what follows the first 0x0A
--- first-line: the first line and what follows its 0x0A
--- ended: lines, each followed by 0x0A, joined
--- both-now: the bytes of two slices
--- closed: the text is empty or its last byte is 0x0A
--- Cut: a first line and what follows give the lines of the text
--- Laws: what `split` keeps, and that no other lines do
+-- A text as lines, cut at the byte 0x0A alone.
+--   feed           the byte is 0x0A
+--   Plain          no byte is 0x0A
+--   split          the lines of a text: an empty text has none, and what follows the last 0x0A is a line unless it is empty
+--   line-len       how many bytes stand before the first 0x0A
+--   end-from       where the run of bytes other than 0x0A from a place on ends
+--   after-line     what follows the first 0x0A
+--   first-line     the first line and what follows its 0x0A
+--   unless-empty   a line with what follows it, or none where the text is empty
+--   ended          lines, each followed by 0x0A, joined
+--   both-now       the bytes of two slices
+--   closed         the text is empty or its last byte is 0x0A
+--   Cut            a first line and what follows give the lines of the text
+--   Laws           what `split` keeps, and that no other lines do
 use mathlib.Core.Path.{_≡_}
 use mathlib.Core.Bool.{Bool, true, false, cond, not}
 use mathlib.Core.List.{List, [], _∷_, _++_}
@@ -38,12 +40,18 @@ split (b ∷ bs) = cond (feed b) ([] ∷ split bs) (onto b (split bs))
 abbrev pub line-len : List ℕ → ℕ
 line-len text = leading (λ b. not (feed b)) text
 
+abbrev pub end-from : ℕ → List ℕ → ℕ
+end-from n text = n + line-len (drop n text)
+
 abbrev pub after-line : List ℕ → List ℕ
 after-line text = drop (line-len text + 1) text
 
 abbrev pub first-line : List ℕ → Option (List ℕ × List ℕ)
 first-line [] = None
 first-line (b ∷ bs) = Some (take (line-len (b ∷ bs)) (b ∷ bs), after-line (b ∷ bs))
+
+abbrev pub unless-empty : List ℕ → List ℕ × List ℕ → Option (List ℕ × List ℕ)
+unless-empty text cut = cond (eqb (length text) 0) None (Some cut)
 
 abbrev pub ended : List (List ℕ) → List ℕ
 ended ls = joined (λ l. l ++ 10 ∷ []) ls

@@ -1,4 +1,4 @@
--- The decimal text of a number is read back as that number. Assumes nothing.
+-- The decimal text of a number is read back as that number.
 use mathlib.Core.Path.{_≡_, ap, _∙_}
 use mathlib.Core.Bool.{true}
 use Prim.Native.Nat.{ℕ, suc, _-_, _^_, _≤_, _<_}

@@ -1,4 +1,4 @@
--- Numbers by their bytes: at a digit, at another byte, past the limit, after a sign. Assumes nothing.
+-- Numbers by their bytes: at a digit, at another byte, past the limit, after a sign.
 use mathlib.Core.Path.{_≡_, refl, sym, ap, _∙_}
 use mathlib.Core.Bool.{Bool, true, false, cond, _&&_}
 use mathlib.Core.List.{List, [], _∷_}

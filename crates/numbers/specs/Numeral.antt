@@ -1,10 +1,10 @@
--- The numbers that texts write in decimal. Assumes nothing.
+-- The numbers that texts write in decimal.
 --   value-after n cs          the value of the digits cs after those of n
 --   digits-after limit n cs   that value, where cs are digits and it is within the limit
 --   unsigned limit cs         the number that one digit or more write, within the limit
 --   after-plus cs             cs without the plus sign in front, if there is one
 --   numeral limit cs          the number that one digit or more write after at most one plus sign
---   signed-numeral cs                 the number of 32 bits that digits write after at most one sign
+--   signed-numeral cs         the number of 32 bits that digits write after at most one sign
 --   signed-by cs ds           the same, where ds are the bytes after a minus sign in front of cs, if there is one
 use mathlib.Core.Bool.{cond, _&&_}
 use mathlib.Core.List.{List, [], _∷_}

@@ -1,19 +1,19 @@
--- What is due of an input, step by step and piece by piece. Assumes nothing.
-use mathlib.Core.Path.{_≡_, refl, sym, ap, _∙_}
+-- What is due of an input, step by step and piece by piece.
+use mathlib.Core.Path.{_≡_, refl, sym, ap, subst, _∙_}
 use mathlib.Core.Bool.{Bool, true, false, cond}
 use mathlib.Core.List.{List, [], _∷_, _++_, map}
-use Prim.Native.Nat.{ℕ, zero, suc, _+_, _-_, _<_, _≤_}
+use Prim.Native.Nat.{ℕ, zero, suc, _+_, _-_, _<_}
 use native.Mathlib.Omega.{arith}
 use lib.Dec.{leb, ltb}
-use lib.ListN.{length, take, drop}
-use Rattle.std.specs.shelf.Lists.{joined, between}
+use lib.ListN.{length, take}
+use Rattle.std.specs.shelf.Lists.{joined}
 use Rattle.std.specs.Vec.{listOf}
 use Rattle.std.specs.declared.option.Option.the-variants.{Some, None}
-use Rattle.std.proofs.shelf.Lists.{append-nil, append-assoc, length-append, length-drop, drop-drop}
-use Rattle.std.proofs.shelf.Tests.{ltb-true, ltb-false, lt-ltb, le-ltb, lt-leb, leb-false, cond-true, cond-false, cond-both}
+use Rattle.std.proofs.shelf.Lists.{append-nil, append-assoc, length-append, length-drop}
+use Rattle.std.proofs.shelf.Tests.{ltb-true, ltb-false, lt-leb, leb-false, cond-both}
 use Rattle.lines.specs.Lines.{Plain, split, line-len, after-line}
 use Rattle.lines.proofs.Splits.{split-first, split-feed, line-cut, line-plain, plain-whole, take-line, after-line-append}
-use Rattle.pieces.specs.Reading.{Pending, kept, over, Outcome, line, too-long, judged, resumed, due, grown, handed, Step, next-line, Hands, last-line, and-on, over-piece, over-pieces, Reads}
+use Rattle.pieces.specs.Reading.{Pending, kept, over, line, too-long, judged, resumed, due, grown, handed, Step, next-line, Hands, last-line, and-on, over-piece, over-pieces, Reads}
 
 -- bytes of the first line may stand before the text or have come earlier
 pub resumed-more : (bytes xs text : List ℕ) → Plain xs → resumed bytes (xs ++ text) ≡ resumed (bytes ++ xs) text
@@ -82,6 +82,9 @@ module _ (limit : ℕ) where
       ∙ due-feed p (take (line-len text) text) (after-line text ++ more) (line-plain text))
       (λ e more. due-grown p text more (plain-whole text (ltb-false (line-len text) (length text) e)))
 
+  pub due-step : (p : Pending) (text : List ℕ) (s : Step) → s ≡ next-line limit p text → Hands limit p text s
+  due-step p text s e = subst (Hands limit p text) (sym e) (due-next p text)
+
   -- at the input's end
   pub due-last : (p : Pending) → due limit p [] ≡ listOf (last-line limit p)
   due-last (kept []) = refl
@@ -114,29 +117,3 @@ module _ (limit : ℕ) where
 
   pub reads : Reads limit
   reads = record { whole = λ pieces. sym (due-pieces (kept []) pieces); resumes = resumed-split }
-
-  -- a step where a line ends in the text, and where none does
-  pub next-found : (p : Pending) (text : List ℕ) → line-len text < length text
-      → next-line limit p text ≡ record { found = Some (handed (grown limit p (take (line-len text) text))); at-hand = kept []; left = after-line text }
-  next-found p text lt =
-      cond-true (ltb (line-len text) (length text))
-      (record { found = Some (handed (grown limit p (take (line-len text) text))); at-hand = kept []; left = after-line text })
-      (record { found = None; at-hand = grown limit p text; left = [] })
-      (lt-ltb (line-len text) (length text) lt)
-
-  pub next-none : (p : Pending) (text : List ℕ) → length text ≤ line-len text → next-line limit p text ≡ record { found = None; at-hand = grown limit p text; left = [] }
-  next-none p text le =
-      cond-false (ltb (line-len text) (length text))
-      (record { found = Some (handed (grown limit p (take (line-len text) text))); at-hand = kept []; left = after-line text })
-      (record { found = None; at-hand = grown limit p text; left = [] })
-      (le-ltb (line-len text) (length text) le)
-
-  -- the same, by places in a piece that is read from `at` on
-  pub next-found-at : (p : Pending) (piece : List ℕ) (at n : ℕ) → n ≡ line-len (drop at piece) → line-len (drop at piece) < length (drop at piece)
-      → record { found = Some (handed (grown limit p (between at (at + n) piece))); at-hand = kept []; left = drop (at + n + 1) piece } ≡ next-line limit p (drop at piece)
-  next-found-at p piece at n long lt =
-      let text = drop at piece in
-      let size : at + n - at ≡ line-len text = omega arith in
-      let past : at + n + 1 ≡ at + (line-len text + 1) = omega arith in
-      let left : drop (at + n + 1) piece ≡ after-line text = ap (λ k. drop k piece) past ∙ sym (drop-drop (line-len text + 1) at piece) in
-      (λ i. record { found = Some (handed (grown limit p (take (size i) text))); at-hand = kept []; left = left i }) ∙ sym (next-found p text lt)

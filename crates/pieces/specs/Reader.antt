@@ -1,10 +1,10 @@
--- What a `LineReader` holds and finds, in the words of `Reading`. Assumes nothing.
--- limit: the most bytes that a line may have, the length of the carry memory
--- pending: the line at hand
--- part: the bytes of a span of the piece or of the carry memory; none where it does not lie within
--- seen: the outcome that is found, with the bytes of its span
--- stepped: a step, from what was found, where to go on in the piece, and the reader after it
--- Onward: unless nothing more was found, a step takes at least a byte off the piece, and it never passes the piece's end
+-- What a `LineReader` holds and finds, in the words of `Reading`.
+--   limit     the most bytes that a line may have, the length of the carry memory
+--   pending   the line at hand
+--   part      the bytes of a span of the piece or of the carry memory; none where it does not lie within
+--   seen      the outcome that is found, with the bytes of its span
+--   stepped   a step, from what was found, where to go on in the piece, and the reader after it
+--   Onward    unless nothing more was found, a step takes at least a byte off the piece, and it never passes the piece's end
 use mathlib.Core.Path.{_≡_}
 use mathlib.Core.Bool.{cond, _&&_}
 use mathlib.Core.List.{List, []}

@@ -1,25 +1,26 @@
--- Lines of an input that comes in pieces, under a limit on a line's bytes. Assumes nothing.
--- Pending: the line at hand as far as it came: `kept` has its bytes, and `over` says that they are more than the limit
--- Outcome: a line that ended: `line` has its bytes, and `too-long` says that they are more than the limit
--- judged: a whole line by the limit
--- resumed: the lines of a text whose first line began earlier with some bytes
--- due: what is still to come of an input, from the line at hand on
--- grown: the line at hand with more bytes
--- handed: the line at hand, at its end
--- next-line: one step over a text: the line that ends in it, if one does, the line at hand after it, and the text that is left
--- Hands: a step hands out what is due next, whatever input follows
--- last-line: the line at hand at the input's end, if there is one
--- over-piece: the steps over one piece: the lines that end in it, and the line at hand after it
--- over-pieces: the lines of an input in pieces, to its end
--- and-on: a step, and then the rest of the steps
--- Reads: the lines of an input in pieces are those of the whole
+-- Lines of an input that comes in pieces, under a limit on a line's bytes.
+--   Pending       the line at hand as far as it came: `kept` has its bytes, and `over` says that they are more than the limit
+--   Outcome       a line that ended: `line` has its bytes, and `too-long` says that they are more than the limit
+--   judged        a whole line by the limit
+--   resumed       the lines of a text whose first line began earlier with some bytes
+--   due           what is still to come of an input, from the line at hand on
+--   grown         the line at hand with more bytes
+--   handed        the line at hand, at its end
+--   next-line     one step over a text: the line that ends in it, if one does, the line at hand after it, and the text that is left
+--   Ends          where the line that goes on at a place of a piece ends, or that it does not end in the piece
+--   Hands         a step hands out what is due next, whatever input follows
+--   last-line     the line at hand at the input's end, if there is one
+--   over-piece    the steps over one piece: the lines that end in it, and the line at hand after it
+--   over-pieces   the lines of an input in pieces, to its end
+--   and-on        a step, and then the rest of the steps
+--   Reads         the lines of an input in pieces are those of the whole
 use mathlib.Core.Path.{_≡_}
-use mathlib.Core.Bool.{Bool, true, false, cond}
+use mathlib.Core.Bool.{true, false, cond}
 use mathlib.Core.List.{List, [], _∷_, _++_, map}
-use Prim.Native.Nat.{ℕ, zero, suc, _+_}
+use Prim.Native.Nat.{ℕ, zero, suc, _+_, _<_, _≤_}
 use lib.Dec.{leb, ltb}
 use lib.ListN.{length, take, drop}
-use Rattle.std.specs.shelf.Lists.{joined}
+use Rattle.std.specs.shelf.Lists.{joined, between}
 use Rattle.std.specs.Vec.{listOf}
 use Rattle.std.specs.declared.option.Option.{Option}
 use Rattle.std.specs.declared.option.Option.the-variants.{Some, None}
@@ -62,6 +63,14 @@ next-line limit p text =
     cond (ltb (line-len text) (length text))
     (record { found = Some (handed (grown limit p (take (line-len text) text))); at-hand = kept []; left = after-line text })
     (record { found = None; at-hand = grown limit p text; left = [] })
+
+abbrev pub Ends : ℕ → List ℕ → Option ℕ → Type 0
+Ends at piece (Some end) =
+    (at ≤ end) × (end < length piece)
+    × (ltb (line-len (drop at piece)) (length (drop at piece)) ≡ true)
+    × (take (line-len (drop at piece)) (drop at piece) ≡ between at end piece)
+    × (after-line (drop at piece) ≡ drop (end + 1) piece)
+Ends at piece None = (ltb (line-len (drop at piece)) (length (drop at piece)) ≡ false) × (drop (length piece) piece ≡ [])
 
 abbrev pub Hands : ℕ → Pending → List ℕ → Step → Type 0
 Hands limit p text s = (more : List ℕ) → due limit p (text ++ more) ≡ listOf (s .found) ++ due limit (s .at-hand) (s .left ++ more)

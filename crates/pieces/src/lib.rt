@@ -6,7 +6,7 @@ ghost use lib.ListN.{length, take, drop};
 ghost use Rattle.std.specs.Vec.{listOf};
 ghost use Rattle.std.specs.shelf.Lists.{between};
 ghost use Rattle.std.specs.declared.option.Option.the-variants.{Some};
-ghost use Rattle.pieces.specs.Reading.{kept, grown, handed, next-line, Hands, last-line, due, Reads};
+ghost use Rattle.pieces.specs.Reading.{kept, grown, handed, next-line, Ends, Hands, last-line, due, Reads};
 ghost use Rattle.pieces.specs.Reader.{part, pending, limit, seen, stepped, Onward};
 use lines::line_len;
 
@@ -71,14 +71,7 @@ impl<'c> LineReader<'c> {
         ensures len { λ r. ⌜ Onward (r .0) at (r .1) (length (now (piece .entry))) ⌝ }
         ensures laws { λ _. ⌜ Reads (limit (now (self .entry))) ⌝ }
     {
-        let text = rest(piece, at);
-        let n = line_len(text);
-        if n == text.len() {
-            self.keep(text);
-            return (Found::More, piece.len());
-        }
-        let end = at + n;
-        (self.end_line(piece, at, end), end + 1)
+        self.step(piece, at)
     }
 
     // At the input's end: the line at hand, or `More` where there is none.
@@ -94,6 +87,21 @@ impl<'c> LineReader<'c> {
         self.hand_out()
     }
 
+    // What `join` does, apart from the laws of it.
+    fn step(&mut self, piece: &[u8], at: usize) -> (Found, usize)
+        ensures value { λ r. ⌜ stepped r (now (piece .entry)) (now (self .exit)) ≡ next-line (limit (now (self .entry))) (pending (now (self .entry))) (drop at (now (piece .entry))) ⌝ }
+        ensures room { λ _. ⌜ limit (now (self .exit)) ≡ limit (now (self .entry)) ⌝ }
+        ensures len { λ r. ⌜ r .1 ≤ length (now (piece .entry)) ⌝ }
+    {
+        match line_end(piece, at) {
+            Some(end) => (self.end_line(piece, at, end), end + 1),
+            None => {
+                self.keep(rest(piece, at));
+                (Found::More, piece.len())
+            }
+        }
+    }
+
     // The line at hand, which ends with this part of the piece.
     fn end_line(&mut self, piece: &[u8], start: usize, end: usize) -> Found
         requires { ⌜ start ≤ end ⌝ ∗ ⌜ end ≤ length (now piece) ⌝ }
@@ -101,11 +109,12 @@ impl<'c> LineReader<'c> {
         ensures after { λ _. ⌜ pending (now (self .exit)) ≡ kept [] ⌝ }
         ensures room { λ _. ⌜ limit (now (self .exit)) ≡ limit (now (self .entry)) ⌝ }
     {
-        if self.held > 0 {
-            self.keep(&piece[start..end]);
+        let line = &piece[start..end];
+        if self.held != 0 {
+            self.keep(line);
             return self.hand_out();
         }
-        if end - start <= self.carry.len() {
+        if line.len() <= self.carry.len() {
             Found::Line(Span {
                 source: Source::Piece,
                 start,
@@ -168,6 +177,15 @@ fn rest(piece: &[u8], at: usize) -> &[u8]
     ensures { λ r. ⌜ now r ≡ drop at (now (piece .entry)) ⌝ }
 {
     if at <= piece.len() { &piece[at..] } else { &[] }
+}
+
+// Where the line that goes on at `at` ends, if it does so in the piece.
+fn line_end(piece: &[u8], at: usize) -> Option<usize>
+    ensures { λ r. ⌜ Ends at (now (piece .entry)) r ⌝ }
+{
+    let text = rest(piece, at);
+    let n = line_len(text);
+    if n == text.len() { None } else { Some(at + n) }
 }
 
 #[cfg(test)]

@@ -1,4 +1,4 @@
--- The first n of a list, also where n is past its end, under a cut and a write. Assumes nothing.
+-- The first n of a list, also where n is past its end, under a cut and a write.
 use mathlib.Core.Path.{_≡_, sym, ap, _∙_}
 use mathlib.Core.List.{List}
 use Prim.Native.Nat.{ℕ, min, _+_, _<_, _≤_}

@@ -1,4 +1,4 @@
--- What a table holds, and how much it can hold. Assumes nothing.
+-- What a table holds, and how much it can hold.
 --   held t            the entries of the table t, in the order of their keys
 --   room t            how many entries t can hold
 --   pushed xs n x     what a push of x answers where the entries are xs and the room is n, and the entries after it

@@ -1,9 +1,12 @@
 use mathlib.Core.Path.{_≡_}
-use Prim.Native.Nat.{_+_}
-use lib.ListN.{drop}
-use Rattle.lines.specs.Lines.{line-len}
+use Prim.Native.Nat.{_-_}
+use lib.ListN.{length}
+use Rattle.lines.specs.Lines.{line-len, end-from}
 use Rattle.lines.proofs.line_len.Given as given
 
--- the bytes passed, and those that stand before the next 0x0A, are those of the first line
-abbrev pub Inv-loop-i : given.InvT-loop-i
-Inv-loop-i l = l .i + line-len (drop (l .i) (l .text)) ≡ line-len (l .text)
+-- the first line ends where it ends from the place at hand on
+abbrev pub Inv-loop-n : given.InvT-loop-n
+Inv-loop-n l = end-from (l .n) (l .text) ≡ line-len (l .text)
+
+abbrev pub μ-loop-n : given.MeasureT-loop-n
+μ-loop-n l = length (l .text) - l .n
