@@ -3,7 +3,7 @@
 --   Names line r     the words that an answer names are parts of the line, at the places told
 --   Named-part       the same of a literal that the cursor gives
 --   Numbered-alike   the kind that a line is told to be has the number of its event's case
---   Reached          for each kind of event and all values that it may hold there is a line that gives it
+--   Reached          for each kind of event and all values that it may hold there is a line of bytes that gives it
 use mathlib.Core.Path.{_≡_}
 use mathlib.Core.Bool.{Bool, true, false}
 use mathlib.Core.List.{List, _++_, map}
@@ -64,10 +64,17 @@ Named-part line (Ok None) = Unit {0}
 Named-part line (Ok (Some n)) = Stands 0 line (n .id)
 Named-part line (Err e) = Unit {0}
 
+-- a byte, and one that can stand in a word
+abbrev pub Byte : ℕ → Type 0
+Byte b = b < 256
+
+abbrev pub Letter : ℕ → Type 0
+Letter b = (separator b ≡ false) × Byte b
+
 -- the ids that a named literal can have: words; after `(not` also the empty one
 abbrev pub Id : List ℕ → Bool → Type 0
-Id id true = All (λ b. separator b ≡ false) id × (0 < length id) × (literal-word id ≡ literal.Id)
-Id id false = All (λ b. separator b ≡ false) id
+Id id true = All Letter id × (0 < length id) × (literal-word id ≡ literal.Id)
+Id id false = All Letter id
 
 -- the numbers that a reason can hold
 abbrev pub In-range-literal : SolverLiteral → Type 0
@@ -92,13 +99,17 @@ all-unplaced (Err e) = Err e
 abbrev pub Numbered-alike : Mode → List ℕ → Type 0
 Numbered-alike m line = (s : Said) (k : LineKind) → event-of line ≡ Ok s → line-kind m line ≡ Ok k → number-of-kind k ≡ number-of-case s
 
+-- some line of bytes says it
+abbrev pub Says : Said → Type 0
+Says s = (line : List ℕ) × All Byte line × (event-of line ≡ Ok s)
+
 pub record Reached : Type 0 where
-  pub others : (line : List ℕ) × (event-of line ≡ Ok other)
+  pub others : Says other
   pub assigns : (m : Mode) (id : List ℕ) (v : Bool) (r : Reason) → Id id v → In-range r
-      → (line : List ℕ) × (place : ℕ) × (end : ℕ) × (ws : List Placed) × (event-of line ≡ Ok (assign (valued (at place id) v) end ws)) × (reason-of m end ws ≡ Ok r)
-  pub decides : (line : List ℕ) × (event-of line ≡ Ok decide-and-or)
+      → (place : ℕ) × (end : ℕ) × (ws : List Placed) × Says (assign (valued (at place id) v) end ws) × (reason-of m end ws ≡ Ok r)
+  pub decides : Says decide-and-or
   pub conflicts : (ls : List (List ℕ × Bool)) → All (λ l. Id (l .0) (l .1)) ls
-      → (line : List ℕ) × (end : ℕ) × (ws : List Placed) × (event-of line ≡ Ok (conflict end ws)) × (all-unplaced (literals end ws) ≡ Ok ls)
-  pub pushes : (s : ℕ) → s < 2 ^ 64 → (line : List ℕ) × (event-of line ≡ Ok (push s))
-  pub pops : (n s : ℕ) → 0 < n → n < 2 ^ 64 → s < 2 ^ 64 → (line : List ℕ) × (event-of line ≡ Ok (pop n s))
-  pub checks : (s : ℕ) → s < 2 ^ 64 → (line : List ℕ) × (event-of line ≡ Ok (begin-check s))
+      → (end : ℕ) × (ws : List Placed) × Says (conflict end ws) × (all-unplaced (literals end ws) ≡ Ok ls)
+  pub pushes : (s : ℕ) → s < 2 ^ 64 → Says (push s)
+  pub pops : (n s : ℕ) → 0 < n → n < 2 ^ 64 → s < 2 ^ 64 → Says (pop n s)
+  pub checks : (s : ℕ) → s < 2 ^ 64 → Says (begin-check s)

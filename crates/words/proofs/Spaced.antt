@@ -5,6 +5,7 @@ use Prim.Native.Nat.{ℕ, suc, _+_, _<_}
 use native.Mathlib.Omega.{arith}
 use lib.ListN.{length}
 use Rattle.std.specs.shelf.Lists.{All}
+use Rattle.std.proofs.shelf.Elements.{all-append}
 use Rattle.words.specs.Words.{Placed, at, words}
 use Rattle.words.proofs.Places.{Plain, word-passed}
 
@@ -29,3 +30,7 @@ first-spaced p (c ∷ cs) rest (some, h) =
 pub words-spaced : (p : ℕ) (ws : List (List ℕ)) → All One-word ws → words p (spaced ws) ≡ placed p ws
 words-spaced p [] h = refl
 words-spaced p (w ∷ ws) (k, h) = first-spaced p w (spaced ws) k ∙ ap (λ t. at p w ∷ t) (words-spaced (p + length w + 1) ws h)
+
+pub all-spaced : (P : ℕ → Type 0) → P 32 → (ws : List (List ℕ)) → All (All P) ws → All P (spaced ws)
+all-spaced P space [] h = tt
+all-spaced P space (w ∷ ws) (k, h) = all-append P w (32 ∷ spaced ws) k (space, all-spaced P space ws h)
