@@ -54,7 +54,7 @@ next-answer c text =
 abbrev pub last-answer : LogChecker → Option Answer
 last-answer c = mapped (answer-to (c .mode)) (last-line (limit-of c) (pending (c .reader)))
 
--- a step with an answer-to goes on in the piece
+-- a step with an answer goes on in the piece
 abbrev pub Goes-on : Option Answer → ℕ → ℕ → ℕ → Type 0
 Goes-on None at next end = next ≡ end
 Goes-on (Some a) at next end = (at < next) × (next ≤ end)

@@ -1,8 +1,8 @@
 -- How many answers there are of each kind.
 --   Answer        the kind of a line, or its refusal
---   count p xs    how many answers pass the test, at limit-of 2^64 - 1
+--   count p xs    how many answers pass the test, at most 2^64 - 1
 --   tally-of xs   the counts of all kinds and of the refusals
---   noted t a     a tally with one answer more
+--   noted t a     a tally with one answer more, if there is one: noted-after t o
 use mathlib.Core.Bool.{Bool, true, false, cond}
 use mathlib.Core.List.{List}
 use Prim.Native.Nat.{ℕ, _+_, _-_, _^_, min}

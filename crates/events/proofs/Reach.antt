@@ -2,13 +2,10 @@
 use mathlib.Core.Path.{_≡_, refl, ap, _∙_}
 use mathlib.Core.Bool.{Bool, true, false, cond, not, _&&_}
 use mathlib.Core.List.{List, [], _∷_, _++_, map}
-use mir.Syntax.{w32}
-use mir.Val.{SFits}
 use Prim.Native.Nat.{ℕ, suc, _+_, _-_, _^_, _≤_, _<_}
 use native.Mathlib.Omega.{arith}
 use lib.Chars.{codes}
 use lib.Dec.{eqb, ltb, lit<}
-use lib.IntN.{ℤ, pos, negsuc}
 use lib.ListN.{length, take, drop, getD}
 use Rattle.std.specs.Written.{decimal, signed as written}
 use Rattle.std.specs.declared.option.Option.the-variants.{Some, None}
@@ -21,7 +18,7 @@ use Rattle.std.proofs.shelf.Elements.{all-append, all-weaker}
 use Rattle.std.proofs.shelf.Lists.{length-push, getD-push, take-at}
 use Rattle.std.proofs.shelf.Tests.{not-true, and-parts, and-left, and-right, or-from, ltb-true, lt-ltb, le-leb, eq-eqb, ne-eqb}
 use Rattle.numbers.specs.Numeral.{numeral}
-use Rattle.numbers.proofs.Decimal.{decimal-all, decimal-first, numeral-decimal, signed-written}
+use Rattle.numbers.proofs.Decimal.{decimal-all, decimal-first, written-all, numeral-decimal, signed-written}
 use Rattle.refusal.specs.declared.refusals.Refusal.{Refusal}
 use Rattle.refusal.specs.declared.refusals.Refusal.the-variants as refusal
 use Rattle.words.specs.Words.{separator, letter, Placed, at}
@@ -156,10 +153,6 @@ reason-words m (reason.Bin l) = codes "bin" ∷ literal-words m l
 reason-words m (reason.Clause l) = codes "clause" ∷ literal-words m l
 reason-words m (reason.Theory z) = codes "justification" ∷ (written z ++ 58 ∷ []) ∷ []
 
-written-plain : (z : ℤ) → SFits w32 z → All Letter (written z)
-written-plain (pos n) h = decimal-word n (omega (arith, h .sfits)) .1
-written-plain (negsuc n) h = ((refl, lit< tt), decimal-word (suc n) (omega (arith, h .sfits)) .1)
-
 reason-read : (m : Mode) (r : Reason) → In-range r → (e p : ℕ) → reason-of m e (placed p (reason-words m r)) ≡ Ok r
 reason-read m reason.Decision h e p = refl
 reason-read m reason.Axiom h e p = refl
@@ -174,7 +167,7 @@ reason-plain m reason.Decision h = ((lit< tt, plain-from (codes "decision") refl
 reason-plain m reason.Axiom h = ((lit< tt, plain-from (codes "axiom") refl), tt)
 reason-plain m (reason.Bin l) h = ((lit< tt, plain-from (codes "bin") refl), literal-plain m l h)
 reason-plain m (reason.Clause l) h = ((lit< tt, plain-from (codes "clause") refl), literal-plain m l h)
-reason-plain m (reason.Theory z) h = ((lit< tt, plain-from (codes "justification") refl), (push-word (written z) 58 (written-plain z h) (refl, lit< tt), tt))
+reason-plain m (reason.Theory z) h = ((lit< tt, plain-from (codes "justification") refl), (push-word (written z) 58 (written-all Letter (refl, lit< tt) digit-plain z h) (refl, lit< tt), tt))
 
 -- named literals
 abbrev named-words : List ℕ → Bool → List (List ℕ) → List (List ℕ)

@@ -3,6 +3,9 @@
 --   Names line r     the words that an answer names are parts of the line, at the places told
 --   Named-part       the same of a literal that the cursor gives
 --   Numbered-alike   the kind that a line is told to be has the number of its event's case
+--   Id id v          the id can stand in a named literal of that value
+--   In-range r       the numbers of a reason are in their range
+--   Says s           some line of bytes says s
 --   Reached          for each kind of event and all values that it may hold there is a line of bytes that gives it
 use mathlib.Core.Path.{_≡_}
 use mathlib.Core.Bool.{Bool, true, false}
@@ -99,7 +102,6 @@ all-unplaced (Err e) = Err e
 abbrev pub Numbered-alike : Mode → List ℕ → Type 0
 Numbered-alike m line = (s : Said) (k : LineKind) → event-of line ≡ Ok s → line-kind m line ≡ Ok k → number-of-kind k ≡ number-of-case s
 
--- some line of bytes says it
 abbrev pub Says : Said → Type 0
 Says s = (line : List ℕ) × All Byte line × (event-of line ≡ Ok s)
 

@@ -1,8 +1,9 @@
 -- What the program's answers mean, as words and numbers.
 --   shown r       what a reading of a line gave
 --   next-shown r  what the cursor over named literals gave
+--   read-of r     what a reading of words gave, with the words left; word-read and named-read the same for a word and a named literal
 --   Of-line l r   what an event leaves to be read is left of the line l
---   Kept w r      the words left after a reading of w are of the same line
+--   Kept w r      the words left after a reading of w are of the same line; Kept-named the same for a named literal
 use mathlib.Core.Path.{_≡_}
 use mathlib.Core.List.{List}
 use Prim.Native.Nat.{ℕ}

@@ -20,16 +20,6 @@ split-feed [] ys h = refl
 split-feed (x ∷ xs) ys (e, h) =
     ap (λ t. cond t ([] ∷ split (xs ++ 10 ∷ ys)) (onto x (split (xs ++ 10 ∷ ys)))) e ∙ ap (onto x) (split-feed xs ys h)
 
--- one line alone, with no 0x0A at its end
-pub split-one : (x : ℕ) (xs : List ℕ) → Plain (x ∷ xs) → split (x ∷ xs) ≡ (x ∷ xs) ∷ []
-split-one x [] (e, h) = ap (λ t. cond t ([] ∷ []) ((x ∷ []) ∷ [])) e
-split-one x (y ∷ ys) (e, h) =
-    ap (λ t. cond t ([] ∷ split (y ∷ ys)) (onto x (split (y ∷ ys)))) e ∙ ap (onto x) (split-one y ys h)
-
-pub split-last : (xs : List ℕ) → 0 < length xs → Plain xs → split xs ≡ xs ∷ []
-split-last [] some h = absurd (omega arith)
-split-last (x ∷ xs) some h = split-one x xs h
-
 -- the length of the first line
 pub line-len-append : (xs ys : List ℕ) → Plain xs → line-len (xs ++ ys) ≡ length xs + line-len ys
 line-len-append [] ys h = omega arith

@@ -36,18 +36,10 @@ decimal-at n i h lt = digit-at (decimal n) i (own .to (decimal n) (decimal-digit
 pub decimal-all : (P : ℕ → Type 0) → ((c : ℕ) → 48 ≤ c → c ≤ 57 → P c) → (n : ℕ) → n < 2 ^ 64 → All P (decimal n)
 decimal-all P each n h = all-from-getD P (decimal n) 0 (λ i lt. let k = decimal-at n i h lt in each (getD (decimal n) i 0) (k .0) (k .1))
 
--- a decimal text is not empty, and each byte is a digit
-pub decimal-word : (n : ℕ) → n < 2 ^ 64 → (0 < length (decimal n)) × All (λ c. (48 ≤ c) × (c ≤ 57)) (decimal n)
-decimal-word n h = (decimal-some n h, decimal-all (λ c. (48 ≤ c) × (c ≤ 57)) (λ c low high. (low, high)) n h)
-
 -- the same, where a minus sign may stand in front
 pub written-all : (P : ℕ → Type 0) → P 45 → ((c : ℕ) → 48 ≤ c → c ≤ 57 → P c) → (z : ℤ) → SFits w32 z → All P (written z)
 written-all P minus each (pos n) h = let lt : n < 2 ^ 31 = h .sfits in decimal-all P each n (omega arith)
 written-all P minus each (negsuc n) h = let lt : n < 2 ^ 31 = h .sfits in (minus, decimal-all P each (suc n) (omega arith))
-
-pub written-some : (z : ℤ) → SFits w32 z → 0 < length (written z)
-written-some (pos n) h = let lt : n < 2 ^ 31 = h .sfits in decimal-some n (omega arith)
-written-some (negsuc n) h = omega arith
 
 pub decimal-first : (n : ℕ) → n < 2 ^ 64 → (48 ≤ getD (decimal n) 0 0) × (getD (decimal n) 0 0 ≤ 57)
 decimal-first n h = decimal-at n 0 h (decimal-some n h)

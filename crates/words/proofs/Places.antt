@@ -9,7 +9,7 @@ use native.Mathlib.Nat.{add-zero}
 use lib.ListN.{length, take, drop, getD}
 use Rattle.std.specs.shelf.Lists.{All}
 use borrow.Author.Needs.{needs}
-use Rattle.std.proofs.shelf.Lists.{length-append, append-nil, length-drop, take-append-drop, drop-at, drop-drop, same-lists, places}
+use Rattle.std.proofs.shelf.Lists.{length-append, length-drop, take-append-drop, drop-at, drop-drop, same-lists, places}
 use Rattle.std.proofs.shelf.Elements.{all-weaker}
 use Rattle.std.proofs.shelf.Tests.{not-true, false≢true, cond-both, eq-eqb, ne-eqb, cases-lt}
 use Rattle.words.specs.Words.{separator, Cut, Placed, at, starts, begun, words, words-by, Stands}
@@ -43,9 +43,6 @@ pub next-passed : (p : ℕ) (gap word rest : List ℕ) → Blank gap → Plain w
     → words p (gap ++ (word ++ rest)) ≡ at (p + length gap) word ∷ words (p + length gap + length word) rest
 next-passed p gap [] rest b h some s = absurd (omega arith)
 next-passed p gap (c ∷ cs) rest b h some s = gap-passed p gap ((c ∷ cs) ++ rest) b ∙ word-passed (p + length gap) c cs rest h s
-
-pub no-words : (p : ℕ) (gap : List ℕ) → Blank gap → words p gap ≡ []
-no-words p gap h = ap (words p) (sym (append-nil gap)) ∙ gap-passed p gap [] h
 
 -- a text starts no word if it is empty or begins with a separator
 pub starts-none : (rest : List ℕ) → (0 < length rest → separator (getD rest 0 0) ≡ true) → starts rest ≡ false
@@ -121,19 +118,6 @@ words-stand p (b ∷ bs) =
     cond-both (separator b) (words (suc p) bs) (begun p b (starts bs) (words (suc p) bs)) (All (Stands p (b ∷ bs)))
     (λ _. all-weaker (Stands (suc p) bs) (Stands p (b ∷ bs)) (later p b bs) (words (suc p) bs) (words-stand (suc p) bs))
     (λ _. begun-stands (starts bs) p b bs refl (words-stand (suc p) bs))
-
--- what each word is: letters, and at least one
-begun-plain : (u : Bool) (p b : ℕ) (ws : List Placed) → separator b ≡ false → All (λ w. (0 < length (w .letters)) × Plain (w .letters)) ws → All (λ w. (0 < length (w .letters)) × Plain (w .letters)) (begun p b u ws)
-begun-plain false p b ws e h = ((omega arith, (e, tt)), h)
-begun-plain true p b [] e h = ((omega arith, (e, tt)), tt)
-begun-plain true p b (w ∷ ws) e (k, h) = ((omega arith, (e, k .1)), h)
-
-pub words-plain : (p : ℕ) (text : List ℕ) → All (λ w. (0 < length (w .letters)) × Plain (w .letters)) (words p text)
-words-plain p [] = tt
-words-plain p (b ∷ bs) =
-    cond-both (separator b) (words (suc p) bs) (begun p b (starts bs) (words (suc p) bs)) (All (λ w. (0 < length (w .letters)) × Plain (w .letters)))
-    (λ _. words-plain (suc p) bs)
-    (λ e. begun-plain (starts bs) p b (words (suc p) bs) e (words-plain (suc p) bs))
 
 -- the words left of a line from place p on, by the next word of what is left
 module _ (p : ℕ) (line text word rest : List ℕ) (is : text ≡ drop p line) (cut : Cut text word rest) where
