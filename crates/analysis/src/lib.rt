@@ -1,6 +1,8 @@
 // What the search cost: totals of the nodes of a tree, and the counts and charges of the terms that were assigned there.
 //
 // Every list of nodes is a tree, and tables are lent. A call that finds one too short changes nothing.
+#![tactic(auto)]
+
 ghost use Rattle.std.specs.Prelude.{◌≡◌, ◌≤◌, true, length, take};
 ghost use Rattle.measures.specs.Measures.{empty_size, size_sum, size_weight};
 ghost use Rattle.analysis.specs.Charges.{within};

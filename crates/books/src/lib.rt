@@ -1,6 +1,8 @@
 // Books: which term an identifier means.
 //
 // A book is a map from byte strings to the numbers of terms. To ask may change the book, but never the map.
+#![tactic(auto)]
+
 ghost use Rattle.std.specs.Prelude.{◌≡◌, ℕ, List, Option as Maybe};
 ghost use Rattle.books.specs.Terms.{shape, numbered, NumberedLaws, listed, ListedLaws};
 

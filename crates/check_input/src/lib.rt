@@ -1,4 +1,6 @@
 // Tells which lines of an input are malformed, where and why, and how many lines of each kind it has.
+#![tactic(auto)]
+
 ghost use Rattle.std.specs.Prelude.{◌≡◌, ℕ, List, [], ◌++◌, OnOk};
 ghost use Rattle.checker.specs.Answers.{answers, limit_of, HasRead};
 ghost use Rattle.checker.specs.Tallies.{tally_of};

@@ -1,4 +1,6 @@
 // Checks the text of a log that comes in pieces.
+#![tactic(auto)]
+
 mod checker;
 mod counts;
 mod report;

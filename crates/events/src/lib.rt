@@ -1,4 +1,6 @@
 // What the lines of a trace say.
+#![tactic(auto)]
+
 mod keywords;
 mod lines;
 mod literals;

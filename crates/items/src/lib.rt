@@ -1,4 +1,6 @@
 // What the tables of a session hold: stack frames, literals and the nodes of the search tree.
+#![tactic(auto)]
+
 ghost use Rattle.std.specs.Prelude.{◌≡◌, take, drop};
 ghost use Rattle.items.specs.Frames.{status_of, alive, new_frame};
 ghost use Rattle.items.specs.Nodes.{new_node, other_than, backlink_of, to_root, lead_of};

@@ -1,4 +1,6 @@
 // A text as lines, cut at the byte 0x0A alone.
+#![tactic(auto)]
+
 ghost use Rattle.std.specs.Prelude.{◌≡◌, ◌+◌, ◌<◌, T, length, if◌then◌else◌};
 ghost use Rattle.std.specs.Option.{option_map};
 ghost use Rattle.lines.specs.Lines.{line_len, end_from, first_line, unless_empty, both_now, Cut, Laws};

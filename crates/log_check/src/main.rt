@@ -1,4 +1,6 @@
 // Checks the log on standard input, in bare mode or, with `--prefixed`, in prefixed mode.
+#![tactic(auto)]
+
 use anyhow::anyhow;
 use check_input::{check_input, mode_for};
 use events::Mode;

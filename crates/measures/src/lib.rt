@@ -1,4 +1,6 @@
 // Joinings and measures: what is made of the nodes of a tree.
+#![tactic(auto)]
+
 ghost use Rattle.std.specs.Prelude.{◌≡◌, ℕ, ◌+◌, ◌%◌, ◌^◌};
 ghost use Rattle.items.specs.declared.cdcl.CdclKind.{CdclKind as Kind};
 ghost use Rattle.measures.specs.Measures.{size, empty_size, size_sum, size_weight, empty_reach, larger_reach, reach_weight};

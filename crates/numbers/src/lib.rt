@@ -1,6 +1,8 @@
 // Decimal numbers, read from bytes.
 //
 // One sign may stand in front, zeros may lead, and a number past the limit is refused.
+#![tactic(auto)]
+
 ghost use Rattle.std.specs.Prelude.{◌≡◌, ℕ, ◌+◌, ◌-◌, ◌*◌, ◌^◌, ◌<◌, ◌≤◌, true, length, ℤ, pos, neg_ℤ, if◌then◌else◌, Some, None, decimal, FitsSigned, nat_eq};
 ghost use Rattle.std.specs.Int.{w32};
 ghost use Rattle.std.specs.Option.{SomeIff, option_map};

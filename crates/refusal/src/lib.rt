@@ -1,4 +1,6 @@
 // The numbered list of refusals.
+#![tactic(auto)]
+
 ghost use Rattle.std.specs.Prelude.{◌≡◌};
 ghost use Rattle.refusal.specs.Refusals.{number_of, name_of, place_of};
 

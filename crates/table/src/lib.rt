@@ -1,6 +1,8 @@
 // A table that grows in memory which the caller lends, one for every kind of record.
 //
 // An entry goes by its key, its place from 0. Contracts speak of the entries and the room alone, never of the cells.
+#![tactic(auto)]
+
 ghost use Rattle.std.specs.Prelude.{◌≡◌, List, [], length, take, slice_set};
 ghost use Rattle.std.specs.List.{slice_get};
 ghost use Rattle.table.specs.Held.{held, room, pushed, added};

@@ -1,6 +1,8 @@
 // The tree of the search: each node's next one towards the root, its way there, and its depth.
 //
 // The tree is a list of nodes, which go by their places in it. Every list is taken: a node that names none below it is a root.
+#![tactic(auto)]
+
 ghost use Rattle.std.specs.Prelude.{◌≡◌, drop};
 ghost use Rattle.std.specs.List.{slice_get};
 ghost use Rattle.tree.specs.Leads.{lead, led};

@@ -1,4 +1,6 @@
 // Trees of several shapes, with their depths and totals by Size and by Reach side by side, and what their assignments cost.
+#![tactic(auto)]
+
 use analysis::{AssignData, TermData, TreeAssignment, charges, size_costs, totals};
 use anyhow::anyhow;
 use items::{Assignment, Cdcl, CdclKind, Conflict, Run};

@@ -1,4 +1,6 @@
 // Checks each file that is named on the command line, as `bare:FILE` or `prefixed:FILE`.
+#![tactic(auto)]
+
 use anyhow::anyhow;
 use check_input::check_input;
 use events::Mode;

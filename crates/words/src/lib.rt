@@ -1,4 +1,6 @@
 // The words of a line: runs of bytes between separators.
+#![tactic(auto)]
+
 ghost use Rattle.std.specs.Prelude.{◌≡◌, ◌≤◌, length, take, drop};
 ghost use Rattle.std.specs.List.{prefix_len, AllByRecursion as All};
 ghost use Rattle.std.specs.Str.{bytes_eq};

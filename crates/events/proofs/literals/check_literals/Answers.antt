@@ -11,9 +11,9 @@ pub loop-literal-preserved : goal.loop-literal-preserved
 loop-literal-preserved c =
     let e = end c.loop-literal.list.rest in
     let after = left c.next.new.self.rest in
-    let was = c.in-ok--literal.was ∙ ap Ok c.in-Some.is in
+    let was = c.in_ok-_literal.was ∙ ap Ok c.in-Some.is in
     let step = c.next.ensures.laws ∙ ap (λ r. given (next_shown r) (literals e after)) was in
     let same = ap length c.next.ensures.same in (
       same ∙ c.loop-literal.invariant.0,
-      ap (λ m. passed Conflict (literals m after)) same ∙ sym (passed_put_first Conflict (literal_of c.in-Some.-literal) (literals e after)) ∙ ap (passed Conflict) (sym step) ∙ c.loop-literal.invariant.1,
+      ap (λ m. passed Conflict (literals m after)) same ∙ sym (passed_put_first Conflict (literal_of c.in-Some._literal) (literals e after)) ∙ ap (passed Conflict) (sym step) ∙ c.loop-literal.invariant.1,
     )
