@@ -1,6 +1,6 @@
 -- The laws of reading a line: what follows the word at fault does not matter, and what is named is a part of the line.
 use Rattle.std.proofs.Common.{◌≡◌, ℕ, ◌+◌, ◌-◌, ◌≤◌, Bool, true, false, cond, ◌&&◌, eqb, ltb, List, [], ◌∷◌, ◌++◌, length, get_or, take, drop, Some, None, Ok, Err, Option, Result, sym, refl, ap, ◌∙◌, subst, inl, inr, ⊎_elim, arith}
-use Rattle.std.specs.List.{AllByRecursion as All}
+use Rattle.std.specs.List.{AllByRecursion}
 use Rattle.std.proofs.lemmas.List.{length-take-le, take-take}
 use Rattle.refusal.specs.declared.refusals.Refusal.{Refusal}
 use Rattle.words.specs.Words.{words, Placed, at, Stands}
@@ -74,21 +74,21 @@ module _ (line : List ℕ) where
   -- a named literal and the words after it
   abbrev Found : Result (Option (Named × List Placed)) Refusal → Type 0
   Found (Ok None) = Unit {0}
-  Found (Ok (Some r)) = Part r.0.id × All Part r.1
+  Found (Ok (Some r)) = Part r.0.id × AllByRecursion Part r.1
   Found (Err e) = Unit {0}
 
-  closed_found : (w : Placed) (ws : List Placed) (t : Bool) → Part w → All Part ws
+  closed_found : (w : Placed) (ws : List Placed) (t : Bool) → Part w → AllByRecursion Part ws
       → Found (some_named (and_then (closed w.place ws (cond t (Some (take (length w.letters - 1) w.letters)) None)) (λ v rest. Ok (valued v false, rest))))
   closed_found w ws true h hs = (front_stands line w (length w.letters - 1) (omega arith) h, hs)
   closed_found w ws false h hs = tt
 
-  begun_found : (k : LiteralWord) (e : ℕ) (w : Placed) (ws : List Placed) → Part w → All Part ws → Found (some_named (begun_with k e w ws))
+  begun_found : (k : LiteralWord) (e : ℕ) (w : Placed) (ws : List Placed) → Part w → AllByRecursion Part ws → Found (some_named (begun_with k e w ws))
   begun_found literal.Constant e w ws h hs = tt
   begun_found literal.Not e w [] h hs = tt
   begun_found literal.Not e w (v ∷ vs) h (g, gs) = closed_found v vs (ltb 0 (length v.letters) && eqb (get_or v.letters (length v.letters - 1) 0) 41) g gs
   begun_found literal.Id e w ws h hs = (h, hs)
 
-  named_found : (e : ℕ) (ws : List Placed) → All Part ws → Found (named e ws)
+  named_found : (e : ℕ) (ws : List Placed) → AllByRecursion Part ws → Found (named e ws)
   named_found e [] hs = tt
   named_found e (w ∷ ws) (h, hs) = begun_found (literal_word w.letters) e w ws h hs
 
@@ -97,7 +97,7 @@ module _ (line : List ℕ) where
   next_found ws (Ok (Some r)) h = h.0
   next_found ws (Err e) h = tt
 
-  pub next_named : (e : ℕ) (ws rest : List Placed) (r : Result (Option Named) Refusal) → All Part ws → (r, rest) ≡ next_literal e ws → NamedPart line r
+  pub next_named : (e : ℕ) (ws rest : List Placed) (r : Result (Option Named) Refusal) → AllByRecursion Part ws → (r, rest) ≡ next_literal e ws → NamedPart line r
   next_named e ws rest r hs is = subst (NamedPart line) (sym (ap (λ p. p.0) is)) (next_found ws (named e ws) (named_found e ws hs))
 
   assigned_named : (e : ℕ) (a : Result (Option (Named × List Placed)) Refusal) → Found a → Names line (assigned e a)
@@ -123,7 +123,7 @@ module _ (line : List ℕ) where
   check_named (Ok r) = tt
   check_named (Err e) = tt
 
-  kind_named : (k : LineKind) (e : ℕ) (ws : List Placed) → All Part ws → Names line (by_kind k e ws)
+  kind_named : (k : LineKind) (e : ℕ) (ws : List Placed) → AllByRecursion Part ws → Names line (by_kind k e ws)
   kind_named kind.Other e ws hs = tt
   kind_named kind.Assign e ws hs = assigned_named e (named e ws) (named_found e ws hs)
   kind_named kind.DecideAndOr e ws hs = tt
@@ -132,7 +132,7 @@ module _ (line : List ℕ) where
   kind_named kind.Pop e ws hs = pop_named e (integer 1 e ws)
   kind_named kind.BeginCheck e ws hs = check_named (integer 0 e ws)
 
-  said_named : (e : ℕ) (ws : List Placed) → All Part ws → Names line (said e ws)
+  said_named : (e : ℕ) (ws : List Placed) → AllByRecursion Part ws → Names line (said e ws)
   said_named e [] hs = tt
   said_named e (w ∷ ws) (h, hs) = kind_named (kind_of w.letters) e ws hs
 

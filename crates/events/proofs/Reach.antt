@@ -1,7 +1,7 @@
 -- For each kind of event and all values that it may hold, a line that gives it: its words, each with a space after it.
 use Rattle.std.proofs.Common.{◌≡◌, ℕ, suc, ◌+◌, ◌-◌, ◌^◌, ◌<◌, ◌≤◌, Bool, true, false, cond, not, ◌&&◌, eqb, ltb, List, [], ◌∷◌, ◌++◌, map, length, get_or, take, drop, Some, None, Ok, Err, codes, decimal, Result, refl, ap, ◌∙◌, arith, lit<}
 use Rattle.std.specs.Fmt.{signed_decimal as written}
-use Rattle.std.specs.List.{AllByRecursion as All}
+use Rattle.std.specs.List.{AllByRecursion}
 use Rattle.std.specs.Str.{bytes_eq}
 use Rattle.std.proofs.lemmas.Fmt.{decimal_nonempty}
 use Rattle.std.proofs.ByRecursion.{All-append, All-weaker}
@@ -27,14 +27,14 @@ use Rattle.events.specs.Reasons.{ended, theory_number, before_colon, reason_of}
 
 -- a word of bytes
 abbrev Sayable : List ℕ → Type 0
-Sayable w = (0 < length w) × All Letter w
+Sayable w = (0 < length w) × AllByRecursion Letter w
 
 -- words of fixed letters
 abbrev all_letters : List ℕ → Bool
 all_letters [] = true
 all_letters (b ∷ bs) = (letter b && ltb b 256) && all_letters bs
 
-plain_from : (w : List ℕ) → all_letters w ≡ true → All Letter w
+plain_from : (w : List ℕ) → all_letters w ≡ true → AllByRecursion Letter w
 plain_from [] e = tt
 plain_from (b ∷ bs) e =
     let both = and_parts (letter b && ltb b 256) (all_letters bs) e in
@@ -52,10 +52,10 @@ digit_plain c low high = (
 decimal_word : (n : ℕ) → n < 2 ^ 64 → Sayable (decimal n)
 decimal_word n h = (decimal_nonempty n h, decimal_all Letter digit_plain n h)
 
-push_word : (w : List ℕ) (b : ℕ) → All Letter w → Letter b → Sayable (w ++ b ∷ [])
+push_word : (w : List ℕ) (b : ℕ) → AllByRecursion Letter w → Letter b → Sayable (w ++ b ∷ [])
 push_word w b h e = (omega (arith, length_push w b), All-append Letter w (b ∷ []) h (e, tt))
 
-onto_word : (b : ℕ) (w : List ℕ) → Letter b → All Letter w → Sayable (b ∷ w)
+onto_word : (b : ℕ) (w : List ℕ) → Letter b → AllByRecursion Letter w → Sayable (b ∷ w)
 onto_word b w e h = (omega arith, (e, h))
 
 -- bytes taken off a word's ends
@@ -119,7 +119,7 @@ module _ (n : ℕ) (some : 0 < n) (fits : n < 2 ^ 32) where
       ap (λ o. and_then (closed q [] o) (λ v rest. with_rest rest (after_p v.place false (unprefixed 112 v.letters)))) (stripped_push 41 (112 ∷ decimal n))
       ∙ ap (λ o. with_rest [] (after_p q false o)) (unprefixed_onto 112 (decimal n)) ∙ ap (with_rest []) (number_read q false)
 
-  variable_plain : (m : Mode) (v : Bool) → All Sayable (variable_words m n v)
+  variable_plain : (m : Mode) (v : Bool) → AllByRecursion Sayable (variable_words m n v)
   variable_plain mode.Bare true = (decimal_word n wide, tt)
   variable_plain mode.Bare false = (onto_word 45 (decimal n) (refl, lit< tt) (decimal_word n wide).1, tt)
   variable_plain mode.Prefixed true = (onto_word 112 (decimal n) (refl, lit< tt) (decimal_word n wide).1, tt)
@@ -130,7 +130,7 @@ literal_read m (lit.Constant true) h e p = refl
 literal_read m (lit.Constant false) h e p = refl
 literal_read m (lit.Variable n v) h e p = variable_read n h.0 h.1 m v e p
 
-literal_plain : (m : Mode) (l : SolverLiteral) → InRangeLiteral l → All Sayable (literal_words m l)
+literal_plain : (m : Mode) (l : SolverLiteral) → InRangeLiteral l → AllByRecursion Sayable (literal_words m l)
 literal_plain m (lit.Constant true) h = ((lit< tt, plain_from (codes "true") refl), tt)
 literal_plain m (lit.Constant false) h = ((lit< tt, plain_from (codes "false") refl), tt)
 literal_plain m (lit.Variable n v) h = variable_plain n h.0 h.1 m v
@@ -152,7 +152,7 @@ reason_read m (reason.Theory z) h e p =
     let q = p + length (codes "justification") + 1 in
     ap (before_colon q) (stripped_push 58 (written z)) ∙ ap (theory_number q) (signed_numeral-written z h)
 
-reason_plain : (m : Mode) (r : Reason) → InRange r → All Sayable (reason_words m r)
+reason_plain : (m : Mode) (r : Reason) → InRange r → AllByRecursion Sayable (reason_words m r)
 reason_plain m reason.Decision h = ((lit< tt, plain_from (codes "decision") refl), ((lit< tt, plain_from (codes "axiom") refl), tt))
 reason_plain m reason.Axiom h = ((lit< tt, plain_from (codes "axiom") refl), tt)
 reason_plain m (reason.Bin l) h = ((lit< tt, plain_from (codes "bin") refl), literal_plain m l h)
@@ -164,15 +164,15 @@ abbrev named_words : List ℕ → Bool → List (List ℕ) → List (List ℕ)
 named_words id true ws = id ∷ ws
 named_words id false ws = codes "(not" ∷ (id ++ 41 ∷ []) ∷ ws
 
-named_plain : (id : List ℕ) (v : Bool) (ws : List (List ℕ)) → Id id v → All Sayable ws → All Sayable (named_words id v ws)
+named_plain : (id : List ℕ) (v : Bool) (ws : List (List ℕ)) → Id id v → AllByRecursion Sayable ws → AllByRecursion Sayable (named_words id v ws)
 named_plain id true ws h k = ((h.1, h.0), k)
 named_plain id false ws h k = ((lit< tt, plain_from (codes "(not") refl), (push_word id 41 h (refl, lit< tt), k))
 
 -- the line that has the words of a list
-spoken : (ws : List (List ℕ)) → All Sayable ws → (s : Said) → said (length (spaced ws)) (placed 0 ws) ≡ Ok s → Says s
+spoken : (ws : List (List ℕ)) → AllByRecursion Sayable ws → (s : Said) → said (length (spaced ws)) (placed 0 ws) ≡ Ok s → Says s
 spoken ws h s e = (
   spaced ws,
-  all-spaced Byte (lit< tt) ws (All-weaker Sayable (All Byte) (λ w k. All-weaker Letter Byte (λ b l. l.1) w k.1) ws h),
+  all-spaced Byte (lit< tt) ws (All-weaker Sayable (AllByRecursion Byte) (λ w k. All-weaker Letter Byte (λ b l. l.1) w k.1) ws h),
   ap (said (length (spaced ws))) (words-spaced 0 ws (All-weaker Sayable OneWord (λ w k. (k.0, All-weaker Letter (λ b. separator b ≡ false) (λ b l. l.0) w k.1)) ws h)) ∙ e,
 )
 
@@ -234,7 +234,7 @@ abbrev cut_words : List (List ℕ × Bool) → List (List ℕ)
 cut_words [] = []
 cut_words (l ∷ ls) = named_words l.0 l.1 (cut_words ls)
 
-cut_plain : (ls : List (List ℕ × Bool)) → All (λ l. Id l.0 l.1) ls → All Sayable (cut_words ls)
+cut_plain : (ls : List (List ℕ × Bool)) → AllByRecursion (λ l. Id l.0 l.1) ls → AllByRecursion Sayable (cut_words ls)
 cut_plain [] h = tt
 cut_plain (l ∷ ls) (k, h) = named_plain l.0 l.1 (cut_words ls) k (cut_plain ls h)
 
@@ -242,7 +242,7 @@ put_first_unplaced : (n : Named) (r : Result (List Named) Refusal) (ls : List (L
 put_first_unplaced n (Ok ns) ls e = let same : map unplaced ns ≡ ls = cc in ap (λ l. Ok (unplaced n ∷ l)) same
 put_first_unplaced n (Err x) ls e = let z : ◌≡◌ {A = ℕ} 0 1 = cc in absurd (omega arith)
 
-cut_read : (ls : List (List ℕ × Bool)) → All (λ l. Id l.0 l.1) ls → (e p : ℕ) → all_unplaced (literals e (placed p (cut_words ls))) ≡ Ok ls
+cut_read : (ls : List (List ℕ × Bool)) → AllByRecursion (λ l. Id l.0 l.1) ls → (e p : ℕ) → all_unplaced (literals e (placed p (cut_words ls))) ≡ Ok ls
 cut_read [] h e p = refl
 cut_read ((id, true) ∷ ls) (k, h) e p =
     let ws = placed (p + length id + 1) (cut_words ls) in
@@ -253,7 +253,7 @@ cut_read ((id, false) ∷ ls) (k, h) e p =
     let ws = placed q (cut_words ls) in
     ap (λ o. all_unplaced (closing place o (literals e ws))) (stripped_push 41 id) ∙ put_first_unplaced (valued (at place id) false) (literals e ws) ls (cut_read ls h e q)
 
-conflicts : (ls : List (List ℕ × Bool)) → All (λ l. Id l.0 l.1) ls
+conflicts : (ls : List (List ℕ × Bool)) → AllByRecursion (λ l. Id l.0 l.1) ls
     → (end : ℕ) × (ws : List Placed) × Says (conflict end ws) × (all_unplaced (literals end ws) ≡ Ok ls)
 conflicts ls h =
     let ws = codes "[conflict]" ∷ cut_words ls in

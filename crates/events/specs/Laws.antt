@@ -9,7 +9,7 @@
 --   Reached          for each kind of event and all values that it may hold there is a line of bytes that gives it
 use Rattle.std.specs.Prelude.{◌≡◌, ℕ, ◌^◌, ◌<◌, Bool, true, false, ◌⊎◌, List, ◌++◌, map, length, Some, None, Ok, Err, Option, Result, FitsSigned}
 use Rattle.std.specs.Int.{w32}
-use Rattle.std.specs.List.{AllByRecursion as All}
+use Rattle.std.specs.List.{AllByRecursion}
 use Rattle.refusal.specs.Refusals.{place_of}
 use Rattle.refusal.specs.declared.refusals.Refusal.{Refusal}
 use Rattle.refusal.specs.declared.refusals.Refusal.TheVariants as refusal
@@ -35,7 +35,7 @@ pub record Blamed {A : Type 0} (read : List ℕ → Result A Refusal) (line : Li
   -- the place told is that of the word's first byte
   pub place : length front ≡ place_of r
   pub some : 0 < length word
-  pub plain : All (λ b. separator b ≡ false) word
+  pub plain : AllByRecursion (λ b. separator b ≡ false) word
   pub apart : starts rest ≡ false
   pub steady : (more : List ℕ) → starts more ≡ false → read (front ++ (word ++ more)) ≡ Err r
 
@@ -44,9 +44,9 @@ Steady read = (line : List ℕ) (r : Refusal) → read line ≡ Err r → (r ≡
 
 abbrev pub Names : List ℕ → Result Said Refusal → Type 0
 Names line (Ok other) = Unit {0}
-Names line (Ok (assign n end ws)) = Stands 0 line n.id × All (Stands 0 line) ws
+Names line (Ok (assign n end ws)) = Stands 0 line n.id × AllByRecursion (Stands 0 line) ws
 Names line (Ok decide_and_or) = Unit {0}
-Names line (Ok (conflict end ws)) = All (Stands 0 line) ws
+Names line (Ok (conflict end ws)) = AllByRecursion (Stands 0 line) ws
 Names line (Ok (push s)) = Unit {0}
 Names line (Ok (pop n s)) = Unit {0}
 Names line (Ok (begin_check s)) = Unit {0}
@@ -66,8 +66,8 @@ Letter b = (separator b ≡ false) × Byte b
 
 -- the ids that a named literal can have: words; after `(not` also the empty one
 abbrev pub Id : List ℕ → Bool → Type 0
-Id id true = All Letter id × (0 < length id) × (literal_word id ≡ literal.Id)
-Id id false = All Letter id
+Id id true = AllByRecursion Letter id × (0 < length id) × (literal_word id ≡ literal.Id)
+Id id false = AllByRecursion Letter id
 
 -- the numbers that a reason can hold
 abbrev pub InRangeLiteral : SolverLiteral → Type 0
@@ -93,14 +93,14 @@ abbrev pub NumberedAlike : Mode → List ℕ → Type 0
 NumberedAlike m line = (s : Said) (k : LineKind) → event_of line ≡ Ok s → line_kind m line ≡ Ok k → number_of_kind k ≡ number_of_case s
 
 abbrev pub Says : Said → Type 0
-Says s = (line : List ℕ) × All Byte line × (event_of line ≡ Ok s)
+Says s = (line : List ℕ) × AllByRecursion Byte line × (event_of line ≡ Ok s)
 
 pub record Reached : Type 0 where
   pub others : Says other
   pub assigns : (m : Mode) (id : List ℕ) (v : Bool) (r : Reason) → Id id v → InRange r
       → (place : ℕ) × (end : ℕ) × (ws : List Placed) × Says (assign (valued (at place id) v) end ws) × (reason_of m end ws ≡ Ok r)
   pub decides : Says decide_and_or
-  pub conflicts : (ls : List (List ℕ × Bool)) → All (λ l. Id l.0 l.1) ls
+  pub conflicts : (ls : List (List ℕ × Bool)) → AllByRecursion (λ l. Id l.0 l.1) ls
       → (end : ℕ) × (ws : List Placed) × Says (conflict end ws) × (all_unplaced (literals end ws) ≡ Ok ls)
   pub pushes : (s : ℕ) → s < 2 ^ 64 → Says (push s)
   pub pops : (n s : ℕ) → 0 < n → n < 2 ^ 64 → s < 2 ^ 64 → Says (pop n s)

@@ -2,7 +2,7 @@
 --   told line   the reason that a line tells, if it is an assign; or its refusal
 --   Worked      each line of the table says what stands beside it
 use Rattle.std.specs.Prelude.{◌≡◌, ℕ, true, List, [], ◌∷◌, Some, None, Ok, Err, codes, Option, Result}
-use Rattle.std.specs.List.{AllByRecursion as All}
+use Rattle.std.specs.List.{AllByRecursion}
 use Rattle.refusal.specs.declared.refusals.Refusal.{Refusal}
 use Rattle.refusal.specs.declared.refusals.Refusal.TheVariants as refusal
 use Rattle.events.specs.declared.shapes.Mode.TheVariants.{Bare}
@@ -39,4 +39,4 @@ table =
     ∷ []
 
 abbrev pub Worked : Type 0
-Worked = All (λ row. told row.0 ≡ row.1) table
+Worked = AllByRecursion (λ row. told row.0 ≡ row.1) table

@@ -1,6 +1,6 @@
 -- Lines of a text and its first line.
 use Rattle.std.proofs.Common.{◌≡◌, ℕ, suc, ◌+◌, ◌<◌, ◌≤◌, Bool, true, false, cond, not, eqb, ltb, List, [], ◌∷◌, ◌++◌, length, get_or, take, drop, Some, None, sym, refl, ap, ◌∙◌, subst, add-one, one-add, arith}
-use Rattle.std.specs.List.{AllByRecursion as All}
+use Rattle.std.specs.List.{AllByRecursion}
 use Rattle.std.proofs.lemmas.List.{append_assoc, length-drop, take-append-drop, take_all}
 use Rattle.std.proofs.lemmas.List.Sums.{prefix_len-le-length, prefix_len-drop_yes, prefix_len-drop_no, prefix_len-drop_all}
 use Rattle.std.proofs.lemmas.Bool.{eqb-true, ne_eqb, le-ltb, cond-false}
@@ -54,15 +54,15 @@ line_stops [] lt = absurd (omega arith)
 line_stops (b ∷ bs) lt = stop_step (feed b) (line_len bs) b bs refl (line_stops bs) lt
 
 -- the laws
-onto_plain : (b : ℕ) (ls : List (List ℕ)) → feed b ≡ false → All Plain ls → All Plain (onto b ls)
+onto_plain : (b : ℕ) (ls : List (List ℕ)) → feed b ≡ false → AllByRecursion Plain ls → AllByRecursion Plain (onto b ls)
 onto_plain b [] e h = ((e, tt), tt)
 onto_plain b (l ∷ ls) e (p, h) = ((e, p), h)
 
-plain_step : (t : Bool) (b : ℕ) (ls : List (List ℕ)) → feed b ≡ t → All Plain ls → All Plain (cond t ([] ∷ ls) (onto b ls))
+plain_step : (t : Bool) (b : ℕ) (ls : List (List ℕ)) → feed b ≡ t → AllByRecursion Plain ls → AllByRecursion Plain (cond t ([] ∷ ls) (onto b ls))
 plain_step true b ls e h = (tt, h)
 plain_step false b ls e h = onto_plain b ls e h
 
-pub split_plain : (text : List ℕ) → All Plain (split text)
+pub split_plain : (text : List ℕ) → AllByRecursion Plain (split text)
 split_plain [] = tt
 split_plain (b ∷ bs) = plain_step (feed b) b (split bs) refl (split_plain bs)
 
@@ -89,12 +89,12 @@ split_whole (b ∷ c ∷ cs) =
     ∙ ap (λ t. b ∷ t) (split_whole (c ∷ cs))
     ∙ under_cons (closed (c ∷ cs)) b (c ∷ cs) ((c ∷ cs) ++ 10 ∷ [])
 
-pub split-ended : (ls : List (List ℕ)) → All Plain ls → split (ended ls) ≡ ls
+pub split-ended : (ls : List (List ℕ)) → AllByRecursion Plain ls → split (ended ls) ≡ ls
 split-ended [] h = refl
 split-ended (l ∷ ls) (p, h) =
     ap split (append_assoc l (10 ∷ []) (ended ls)) ∙ split_feed l (ended ls) p ∙ ap (λ rest. l ∷ rest) (split-ended ls h)
 
-pub split_only : (text : List ℕ) (ls : List (List ℕ)) → All Plain ls → ended ls ≡ cond (closed text) text (text ++ 10 ∷ []) → ls ≡ split text
+pub split_only : (text : List ℕ) (ls : List (List ℕ)) → AllByRecursion Plain ls → ended ls ≡ cond (closed text) text (text ++ 10 ∷ []) → ls ≡ split text
 split_only text ls h e =
     sym (split-ended ls h) ∙ ap split (e ∙ sym (split_whole text)) ∙ split-ended (split text) (split_plain text)
 

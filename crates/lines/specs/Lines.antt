@@ -13,14 +13,14 @@
 --   Cut            a first line and what follows give the lines of the text
 --   Laws           what `split` keeps, and that no other lines do
 use Rattle.std.specs.Prelude.{◌≡◌, ℕ, ◌+◌, ◌<◌, Bool, true, false, cond, not, List, [], ◌∷◌, ◌++◌, length, take, drop, Some, None, Option, ◌==◌}
-use Rattle.std.specs.List.{prefix_len, flat_map, AllByRecursion as All}
+use Rattle.std.specs.List.{prefix_len, flat_map, AllByRecursion}
 use Rattle.std.specs.Borrow.{Bor}
 
 abbrev pub feed : ℕ → Bool
 feed b = b == 10
 
 abbrev pub Plain : List ℕ → Type 0
-Plain bs = All (λ b. feed b ≡ false) bs
+Plain bs = AllByRecursion (λ b. feed b ≡ false) bs
 
 abbrev pub onto : ℕ → List (List ℕ) → List (List ℕ)
 onto b [] = (b ∷ []) ∷ []
@@ -63,8 +63,8 @@ Cut text (Some p) = (split text ≡ p.0 ∷ split p.1) × (length p.1 < length t
 
 pub record Laws (text : List ℕ) : Type 0 where
   -- no line holds 0x0A
-  pub plain : All Plain (split text)
+  pub plain : AllByRecursion Plain (split text)
   -- nothing is lost: the lines, each ended, are the text, which gets the one 0x0A that it may lack at its end
   pub whole : ended (split text) ≡ cond (closed text) text (text ++ 10 ∷ [])
   -- no other lines do both
-  pub only : (ls : List (List ℕ)) → All Plain ls → ended ls ≡ cond (closed text) text (text ++ 10 ∷ []) → ls ≡ split text
+  pub only : (ls : List (List ℕ)) → AllByRecursion Plain ls → ended ls ≡ cond (closed text) text (text ++ 10 ∷ []) → ls ≡ split text

@@ -2,7 +2,7 @@
 use Rattle.std.proofs.Common.{◌≡◌, ℕ, suc, ◌-◌, ◌^◌, ◌<◌, ◌≤◌, true, leb, length, get_or, ℤ, pos, negsuc, neg_ℤ, Some, decimal, ap, ◌∙◌, arith, w32, SFits, rules, le-leb}
 use Rattle.std.specs.Option.{option_map}
 use Rattle.std.specs.Fmt.{signed_decimal as written}
-use Rattle.std.specs.List.{AllByRecursion as All}
+use Rattle.std.specs.List.{AllByRecursion}
 use Rattle.std.specs.Str.{all_ascii_digits}
 use Rattle.std.proofs.lemmas.Fmt.{decimal_nonempty, digits_decimal, digits_value-decimal}
 use Rattle.std.proofs.ByRecursion.{All-from_get_or}
@@ -22,11 +22,11 @@ pub decimal_at : (n i : ℕ) → n < 2 ^ 64 → i < length (decimal n) → (48 �
 decimal_at n i h lt = digit_at (decimal n) i (own.to (decimal n) (decimal_digits n h)) lt
 
 -- what holds of every digit holds of each byte
-pub decimal_all : (P : ℕ → Type 0) → ((c : ℕ) → 48 ≤ c → c ≤ 57 → P c) → (n : ℕ) → n < 2 ^ 64 → All P (decimal n)
+pub decimal_all : (P : ℕ → Type 0) → ((c : ℕ) → 48 ≤ c → c ≤ 57 → P c) → (n : ℕ) → n < 2 ^ 64 → AllByRecursion P (decimal n)
 decimal_all P each n h = All-from_get_or P (decimal n) 0 (λ i lt. let k = decimal_at n i h lt in each (get_or (decimal n) i 0) k.0 k.1)
 
 -- the same, where a minus sign may stand in front
-pub written_all : (P : ℕ → Type 0) → P 45 → ((c : ℕ) → 48 ≤ c → c ≤ 57 → P c) → (z : ℤ) → SFits w32 z → All P (written z)
+pub written_all : (P : ℕ → Type 0) → P 45 → ((c : ℕ) → 48 ≤ c → c ≤ 57 → P c) → (z : ℤ) → SFits w32 z → AllByRecursion P (written z)
 written_all P minus each (pos n) h = let lt : n < 2 ^ 31 = h.sfits in decimal_all P each n (omega arith)
 written_all P minus each (negsuc n) h = let lt : n < 2 ^ 31 = h.sfits in (minus, decimal_all P each (suc n) (omega arith))
 

@@ -1,6 +1,6 @@
 -- The longest front that passes a test, and what taking a word keeps.
 use Rattle.std.proofs.Common.{◌≡◌, ℕ, ◌+◌, ◌<◌, Bool, true, false, cond, List, [], ◌∷◌, ◌++◌, length, get_or, take, drop, refl, ap, ◌∙◌, ⊎_elim, one-add, arith}
-use Rattle.std.specs.List.{prefix_len, AllByRecursion as All}
+use Rattle.std.specs.List.{prefix_len, AllByRecursion}
 use Rattle.std.proofs.lemmas.List.{take-append-drop, length-take-le, length-drop, nil_from_length}
 use Rattle.std.proofs.ByRecursion.{All-weaker}
 use Rattle.std.proofs.lemmas.List.Sums.{prefix_len-le-length}
@@ -14,11 +14,11 @@ module _ (p : ℕ → Bool) where
   abbrev Stops : List ℕ → Type 0
   Stops bs = 0 < length bs → p (get_or bs 0 0) ≡ false
 
-  front_step : (t : Bool) (n x : ℕ) (xs : List ℕ) → p x ≡ t → All Passes (take n xs) → All Passes (take (cond t (1 + n) 0) (x ∷ xs))
+  front_step : (t : Bool) (n x : ℕ) (xs : List ℕ) → p x ≡ t → AllByRecursion Passes (take n xs) → AllByRecursion Passes (take (cond t (1 + n) 0) (x ∷ xs))
   front_step true n x xs e h = rw one-add (e, h)
   front_step false n x xs e h = tt
 
-  pub front_passes : (xs : List ℕ) → All Passes (take (prefix_len p xs) xs)
+  pub front_passes : (xs : List ℕ) → AllByRecursion Passes (take (prefix_len p xs) xs)
   front_passes [] = tt
   front_passes (x ∷ xs) = front_step (p x) (prefix_len p xs) x xs refl (front_passes xs)
 

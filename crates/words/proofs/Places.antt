@@ -1,16 +1,16 @@
 -- The words of a text: one after the other, by the next word, and each a part of the text at its place.
 use Rattle.std.proofs.Common.{◌≡◌, ℕ, suc, ◌+◌, ◌-◌, ◌<◌, ◌≤◌, min, Bool, true, false, cond, not, List, [], ◌∷◌, ◌++◌, length, get_or, take, drop, sym, refl, ap, ◌∙◌, subst, ⊎_elim, append_assoc, add-zero, arith, rules}
-use Rattle.std.specs.List.{AllByRecursion as All}
+use Rattle.std.specs.List.{AllByRecursion}
 use Rattle.std.proofs.lemmas.List.{length-append, length-drop, take-append-drop, drop_at, drop-drop, same_lists, places}
 use Rattle.std.proofs.ByRecursion.{All-weaker}
 use Rattle.std.proofs.lemmas.Bool.{not-true, false≢true, cond_both, eq-eqb, ne_eqb, cases_lt}
 use Rattle.words.specs.Words.{separator, Cut, Placed, at, starts, begun, words, words_by, Stands}
 
 abbrev pub Blank : List ℕ → Type 0
-Blank = All (λ b. separator b ≡ true)
+Blank = AllByRecursion (λ b. separator b ≡ true)
 
 abbrev pub Plain : List ℕ → Type 0
-Plain = All (λ b. separator b ≡ false)
+Plain = AllByRecursion (λ b. separator b ≡ false)
 
 -- separators are passed over
 pub gap_passed : (p : ℕ) (gap text : List ℕ) → Blank gap → words p (gap ++ text) ≡ words (p + length gap) text
@@ -96,18 +96,18 @@ later p b bs w (above, part) =
 here : (p : ℕ) (text word : List ℕ) → take (length word) text ≡ word → Stands p text (at p word)
 here p text word part = let n : p - p ≡ 0 = omega arith in (omega arith, ap (λ n. take (length word) (drop n text)) n ∙ part)
 
-begun_stands : (u : Bool) (p b : ℕ) (bs : List ℕ) → starts bs ≡ u → All (Stands (suc p) bs) (words (suc p) bs) → All (Stands p (b ∷ bs)) (begun p b u (words (suc p) bs))
+begun_stands : (u : Bool) (p b : ℕ) (bs : List ℕ) → starts bs ≡ u → AllByRecursion (Stands (suc p) bs) (words (suc p) bs) → AllByRecursion (Stands p (b ∷ bs)) (begun p b u (words (suc p) bs))
 begun_stands false p b bs f h = (here p (b ∷ bs) (b ∷ []) refl, All-weaker (Stands (suc p) bs) (Stands p (b ∷ bs)) (later p b bs) (words (suc p) bs) h)
 begun_stands true p b bs f h =
     let one = first (suc p) bs f in
-    let rest = subst (All (Stands (suc p) bs)) one.is h in
-    subst (λ ws. All (Stands p (b ∷ bs)) (begun p b true ws)) (sym one.is)
+    let rest = subst (AllByRecursion (Stands (suc p) bs)) one.is h in
+    subst (λ ws. AllByRecursion (Stands p (b ∷ bs)) (begun p b true ws)) (sym one.is)
     (here p (b ∷ bs) (b ∷ one.word) (ap (λ t. b ∷ t) one.part), All-weaker (Stands (suc p) bs) (Stands p (b ∷ bs)) (later p b bs) one.more rest.1)
 
-pub words_stand : (p : ℕ) (text : List ℕ) → All (Stands p text) (words p text)
+pub words_stand : (p : ℕ) (text : List ℕ) → AllByRecursion (Stands p text) (words p text)
 words_stand p [] = tt
 words_stand p (b ∷ bs) =
-    cond_both (separator b) (words (suc p) bs) (begun p b (starts bs) (words (suc p) bs)) (All (Stands p (b ∷ bs)))
+    cond_both (separator b) (words (suc p) bs) (begun p b (starts bs) (words (suc p) bs)) (AllByRecursion (Stands p (b ∷ bs)))
     (λ _. All-weaker (Stands (suc p) bs) (Stands p (b ∷ bs)) (later p b bs) (words (suc p) bs) (words_stand (suc p) bs))
     (λ _. begun_stands (starts bs) p b bs refl (words_stand (suc p) bs))
 
@@ -150,5 +150,5 @@ from_start p line w (above, part) =
     let n : p + (w.place - p) ≡ w.place - 0 = omega arith in
     (omega arith, ap (λ k. take (length w.letters) (drop k line)) (sym n) ∙ ap (take (length w.letters)) (sym (drop-drop (w.place - p) p line)) ∙ part)
 
-pub left_stand : (p : ℕ) (line : List ℕ) → All (Stands 0 line) (words p (drop p line))
+pub left_stand : (p : ℕ) (line : List ℕ) → AllByRecursion (Stands 0 line) (words p (drop p line))
 left_stand p line = All-weaker (Stands p (drop p line)) (Stands 0 line) (from_start p line) (words p (drop p line)) (words_stand p (drop p line))

@@ -6,7 +6,7 @@
 --   words p text     the words of a text that begins at place p of its line
 --   Stands p text w  the word w is a part of the text, at its place
 use Rattle.std.specs.Prelude.{◌≡◌, ℕ, suc, ◌-◌, ◌<◌, ◌≤◌, Bool, true, false, cond, not, ◌||◌, List, [], ◌∷◌, ◌++◌, length, take, drop, ◌==◌, slice_index}
-use Rattle.std.specs.List.{prefix_len, AllByRecursion as All}
+use Rattle.std.specs.List.{prefix_len, AllByRecursion}
 
 abbrev pub separator : ℕ → Bool
 separator b = b == 32 || (b == 9 || (b == 10 || (b == 12 || b == 13)))
@@ -22,9 +22,9 @@ next_word line = let text = drop (blanks line) line in (take (prefix_len letter 
 
 pub record Cut (line word rest : List ℕ) : Type 0 where
   -- separators, word and rest joined give the line
-  pub whole : (gap : List ℕ) × All (λ b. separator b ≡ true) gap × (gap ++ (word ++ rest) ≡ line)
+  pub whole : (gap : List ℕ) × AllByRecursion (λ b. separator b ≡ true) gap × (gap ++ (word ++ rest) ≡ line)
   -- a word has no separator
-  pub plain : All (λ b. separator b ≡ false) word
+  pub plain : AllByRecursion (λ b. separator b ≡ false) word
   -- the word is as long as can be
   pub stops : 0 < length rest → separator (slice_index rest 0) ≡ true
   -- no word is left only where nothing is

@@ -2,7 +2,7 @@
 #![tactic(auto)]
 
 ghost use Rattle.std.specs.Prelude.{◌≡◌, ◌≤◌, length, take, drop};
-ghost use Rattle.std.specs.List.{prefix_len, AllByRecursion as All};
+ghost use Rattle.std.specs.List.{prefix_len, AllByRecursion};
 ghost use Rattle.std.specs.Str.{bytes_eq};
 ghost use Rattle.words.specs.Words.{separator, letter, blanks, next_word, Cut, words, words_by, Stands};
 ghost use Rattle.words.specs.Left.{left, end, taken, Ends, Part};
@@ -80,7 +80,7 @@ pub fn next_word(line: &[u8]) -> (&[u8], &[u8])
 fn word_from(line: &[u8], place: usize) -> (&[u8], usize)
     ensures value { words_by line.now result.0.now result.1 ≡ words place (drop place line.now) }
     ensures within { length result.0.now ≤ result.1 }
-    ensures parts { All (Stands 0 line.now) (words place (drop place line.now)) }
+    ensures parts { AllByRecursion (Stands 0 line.now) (words place (drop place line.now)) }
 {
     let (_, text) = line.split_at(place.min(line.len()));
     let (letters, rest) = next_word(text);
