@@ -119,7 +119,7 @@ mod tests {
 
     // Sees the map alone.
     fn ask<B: Book>(book: &mut B, id: &[u8]) -> Option<usize>
-        ensures { result ≡ terms book.old id.now }
+        ensures { result ≡ B.terms book.old id.now }
     {
         book.term(id)
     }
