@@ -6,8 +6,8 @@
 --   next_answer c text       a step over a text: its answer, if a line ends there, the line at hand after it and the text left
 --   last_answer c            the answer to the line at hand at the input's end, if there is one
 --   checked r piece c        the step that the program made
---   GoesOn                  a step with an answer takes at least a byte off the piece
---   HasRead c whole left    of the input so far, of which left is not looked at yet, the answers given are counted
+--   GoesOn                   a step with an answer takes at least a byte off the piece
+--   HasRead c whole left     of the input so far, of which left is not looked at yet, the answers given are counted
 use Rattle.std.specs.Prelude.{◌≡◌, ℕ, ◌<◌, ◌≤◌, List, ◌++◌, map, drop, Some, None, Err, Option}
 use Rattle.std.specs.Option.{option_map}
 use Rattle.events.specs.declared.shapes.Mode.{Mode}

@@ -1,10 +1,10 @@
 -- Laws of reading a line, in words of the line.
 --   Steady read      a refusal is of the line's end, or blames a word: whatever follows that word, the refusal is the same
 --   Names line r     the words that an answer names are parts of the line, at the places told
---   NamedPart       the same of a literal that the cursor gives
---   NumberedAlike   the kind that a line is told to be has the number of its event's case
+--   NamedPart        the same of a literal that the cursor gives
+--   NumberedAlike    the kind that a line is told to be has the number of its event's case
 --   Id id v          the id can stand in a named literal of that value
---   InRange r       the numbers of a reason are in their range
+--   InRange r        the numbers of a reason are in their range
 --   Says s           some line of bytes says s
 --   Reached          for each kind of event and all values that it may hold there is a line of bytes that gives it
 use Rattle.std.specs.Prelude.{◌≡◌, ℕ, ◌^◌, ◌<◌, Bool, true, false, ◌⊎◌, List, ◌++◌, map, length, Some, None, Ok, Err, Option, Result, FitsSigned}

@@ -2,7 +2,7 @@
 --   shown r       what a reading of a line gave
 --   next_shown r  what the cursor over named literals gave
 --   read_of r     what a reading of words gave, with the words left; word_read and named_read the same for a word and a named literal
---   OfLine l r   what an event leaves to be read is left of the line l
+--   OfLine l r    what an event leaves to be read is left of the line l
 --   Kept w r      the words left after a reading of w are of the same line; KeptNamed the same for a named literal
 use Rattle.std.specs.Prelude.{◌≡◌, ℕ, List, Some, None, Ok, Err, Option, Result}
 use Rattle.refusal.specs.declared.refusals.Refusal.{Refusal}

@@ -1,17 +1,18 @@
 // Checks the log on standard input, in bare mode or, with `--prefixed`, in prefixed mode.
 #![tactic(auto)]
 
-use anyhow::anyhow;
 use check_input::{check_input, mode_for};
 use events::Mode;
+use std::process::ExitCode;
 use std::{env, io};
 
-fn main(rt: HostRuntime) -> anyhow::Result<()> {
+fn main(rt: HostRuntime) -> anyhow::Result<ExitCode> {
     let Some(mode) = mode_from_args(&rt)? else {
         eprintln!(rt; "usage: log-check [--prefixed] < LOG")?;
-        return Err(anyhow!("unknown argument"));
+        return Ok(ExitCode::FAILURE);
     };
-    run(&rt, mode)
+    run(&rt, mode)?;
+    Ok(ExitCode::SUCCESS)
 }
 
 fn run(rt: &HostRuntime, mode: Mode) -> anyhow::Result<()> {

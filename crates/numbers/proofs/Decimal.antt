@@ -11,7 +11,7 @@ use Rattle.std.proofs.lemmas.Bool.{and_from, cond-true}
 use Rattle.numbers.specs.Numeral.{value_after, unsigned, after_plus, numeral, signed_numeral}
 use Rattle.numbers.proofs.Values.{not_empty, after_plus_none, signed_plain}
 
--- `allDigits` and `value_after 0` are the shelf's digits and their value
+-- `all_ascii_digits` and `value_after 0` are digits and their value as the library reads them
 pub own : IsNumeralModel (λ ds. all_ascii_digits ds ≡ true) (value_after 0)
 own = numerals_by_fold _ tells_all_ascii_digits value_after (search rules)
 
