@@ -1,8 +1,11 @@
 // The numbered list of refusals.
 #![tactic(auto)]
 
-ghost use Rattle.std.specs.Prelude.{◌≡◌};
+ghost use Rattle.std.specs.Prelude.{◌≡◌, Some};
 ghost use Rattle.refusal.specs.Refusals.{number_of, name_of, place_of};
+
+use std::error::Error;
+use std::fmt;
 
 mod refusals;
 
@@ -93,3 +96,14 @@ impl Refusal {
         }
     }
 }
+
+// A refusal is printed by its name.
+impl fmt::Display for Refusal {
+    ghost output = { λ r. Some (name_of r) };
+
+    fn fmt<W: fmt::Write>(&self, f: &mut fmt::Formatter<W>) -> fmt::Result {
+        f.write_str(self.name())
+    }
+}
+
+impl Error for Refusal {}
