@@ -56,3 +56,5 @@ signed_numeral-written (pos n) h =
 signed_numeral-written (negsuc n) h =
     let lt : n < 2 ^ 31 = h.sfits in
     ap (option_map (λ n. neg_ℤ (pos n))) (unsigned-decimal (2 ^ 31) (suc n) (omega arith) (omega arith))
+
+pub ruleset read_back = (unsigned-decimal, numeral-decimal, signed_numeral-written)

@@ -1,7 +1,6 @@
 -- Numbers by their bytes: at a digit, at another byte, past the limit, after a sign.
-use Rattle.std.proofs.Common.{◌≡◌, ℕ, ◌+◌, ◌-◌, ◌*◌, ◌^◌, ◌<◌, ◌≤◌, Bool, true, false, cond, ◌&&◌, eqb, leb, List, [], ◌∷◌, length, get_or, take, drop, pos, neg_ℤ, Some, None, Option, sym, refl, ap, ◌∙◌, arith, eq-eqb, ne_eqb, le-leb}
+use Rattle.std.proofs.Common.{◌≡◌, ℕ, ◌+◌, ◌-◌, ◌*◌, ◌^◌, ◌<◌, ◌≤◌, Bool, true, false, cond, ◌&&◌, eqb, leb, List, [], ◌∷◌, length, get_or, pos, neg_ℤ, Some, None, Option, refl, ap, ◌∙◌, arith, ne_eqb}
 use borrow.Author.Tests.{lt-leb}
-use Rattle.std.proofs.lemmas.List.{take_rest}
 use Rattle.std.proofs.lemmas.Bool.Decides.{nat_tests}
 use Rattle.std.specs.Option.{option_map}
 use Rattle.std.specs.Char.{is_ascii_digit}
@@ -37,9 +36,6 @@ refused_by limit n c cs false e refused = at_other limit n c cs e
 pub at_refused : (limit n c : ℕ) (cs : List ℕ) → ((is_ascii_digit c ≡ true) × (n * 10 + (c - 48) ≤ limit) → ⊥) → digits_after limit n (c ∷ cs) ≡ None
 at_refused limit n c cs = refused_by limit n c cs (is_ascii_digit c) refl
 
-pub at_end : (limit n : ℕ) → n ≤ limit → digits_after limit n [] ≡ Some n
-at_end limit n h = ap (λ t. cond t (Some n) None) (le-leb n limit h)
-
 pub not_empty : (limit : ℕ) (cs : List ℕ) → 0 < length cs → unsigned limit cs ≡ digits_after limit 0 cs
 not_empty limit [] h = absurd (omega arith)
 not_empty limit (c ∷ cs) h = refl
@@ -48,17 +44,6 @@ not_empty limit (c ∷ cs) h = refl
 pub unless_empty : (limit : ℕ) (cs : List ℕ) (r : Option ℕ) → r ≡ digits_after limit 0 cs → cond (eqb (length cs) 0) None r ≡ unsigned limit cs
 unless_empty limit [] r e = refl
 unless_empty limit (c ∷ cs) r e = ap (λ t. cond t None r) (ne_eqb (length (c ∷ cs)) 0 (λ e. omega arith)) ∙ e
-
--- a sign in front; the rest as `&text[1..]` has it
-pub after_plus_some : (cs : List ℕ) → 0 < length cs → get_or cs 0 0 ≡ 43 → after_plus cs ≡ take (length cs - 1) (drop 1 cs)
-after_plus_some [] some plus = absurd (omega arith)
-after_plus_some (c ∷ cs) some plus = ap (λ t. cond t cs (c ∷ cs)) (eq-eqb c 43 plus) ∙ sym (take_rest (c ∷ cs) 1)
-
-pub signed_minus : (cs : List ℕ) → 0 < length cs → get_or cs 0 0 ≡ 45 → signed_numeral cs ≡ option_map (λ n. neg_ℤ (pos n)) (unsigned (2 ^ 31) (take (length cs - 1) (drop 1 cs)))
-signed_minus [] some minus = absurd (omega arith)
-signed_minus (c ∷ cs) some minus =
-    ap (λ t. cond t (option_map (λ n. neg_ℤ (pos n)) (unsigned (2 ^ 31) cs)) (option_map pos (numeral (2 ^ 31 - 1) (c ∷ cs)))) (eq-eqb c 45 minus)
-    ∙ ap (λ ds. option_map (λ n. neg_ℤ (pos n)) (unsigned (2 ^ 31) ds)) (sym (take_rest (c ∷ cs) 1))
 
 -- no sign in front
 pub after_plus_none : (cs : List ℕ) → (get_or cs 0 0 ≡ 43 → ⊥) → after_plus cs ≡ cs

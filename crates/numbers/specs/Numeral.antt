@@ -5,7 +5,6 @@
 --   after_plus cs             cs without the plus sign in front, if there is one
 --   numeral limit cs          the number that one digit or more write after at most one plus sign
 --   signed_numeral cs         the number of 32 bits that digits write after at most one sign
---   signed_by cs ds           the same, where ds are the bytes after a minus sign in front of cs, if there is one
 use Rattle.std.specs.Prelude.{ℕ, ◌+◌, ◌-◌, ◌*◌, ◌^◌, cond, ◌&&◌, List, [], ◌∷◌, ℤ, pos, neg_ℤ, Some, None, Option, ◌==◌, nat_le}
 use Rattle.std.specs.Option.{option_map}
 use Rattle.std.specs.Str.{all_ascii_digits}
@@ -27,10 +26,6 @@ after_plus (c ∷ cs) = cond (c == 43) cs (c ∷ cs)
 
 abbrev pub numeral : ℕ → List ℕ → Option ℕ
 numeral limit cs = unsigned limit (after_plus cs)
-
-abbrev pub signed_by : List ℕ → Option (List ℕ) → Option ℤ
-signed_by cs (Some ds) = option_map (λ n. neg_ℤ (pos n)) (unsigned (2 ^ 31) ds)
-signed_by cs None = option_map pos (numeral (2 ^ 31 - 1) cs)
 
 abbrev pub signed_numeral : List ℕ → Option ℤ
 signed_numeral [] = None

@@ -8,17 +8,19 @@ ghost use Rattle.std.specs.Int.{w32};
 ghost use Rattle.std.specs.Option.{SomeIff, option_map};
 ghost use Rattle.std.specs.Fmt.{signed_decimal as written};
 ghost use Rattle.std.specs.Char.{is_ascii_digit};
-ghost use Rattle.numbers.specs.Numeral.{after_plus, numeral, unsigned, signed_numeral, signed_by};
+ghost use Rattle.numbers.specs.Numeral.{after_plus, numeral, unsigned, signed_numeral};
 
 // The number that the text writes, with at most one `+` in front.
+#[tactic(auto, using(crate::proofs::Decimal::read_back))]
 pub fn number(text: &[u8], limit: u64) -> Option<u64>
     ensures value { result ≡ numeral limit text.now }
     ensures laws { (n : ℕ) → n ≤ limit → numeral limit (decimal n) ≡ Some n }
 {
-    digits(after_plus(text), limit)
+    digits(text.strip_prefix(b"+").unwrap_or(text), limit)
 }
 
 // The number that the text writes, with no sign.
+#[tactic(auto, using(crate::proofs::Decimal::read_back))]
 pub fn digits(text: &[u8], limit: u64) -> Option<u64>
     ensures value { result ≡ unsigned limit text.now }
     ensures laws { (n : ℕ) → n ≤ limit → unsigned limit (decimal n) ≡ Some n }
@@ -29,29 +31,13 @@ pub fn digits(text: &[u8], limit: u64) -> Option<u64>
 
 // The value of digits alone; no digits at all count as 0.
 fn value_of(text: &[u8], limit: u64) -> Option<u64>
-    ensures value { (if nat_eq (length text.now) 0 then None else result) ≡ unsigned limit text.now }
-    ensures laws { (n : ℕ) → n ≤ limit → unsigned limit (decimal n) ≡ Some n }
+    ensures { (if nat_eq (length text.now) 0 then None else result) ≡ unsigned limit text.now }
 {
     let mut value: u64 = 0;
     for b in text {
-        match grown(value, *b, limit) {
-            Some(more) => value = more,
-            None => return None,
-        }
+        value = grown(value, *b, limit)?;
     }
     Some(value)
-}
-
-// The text without one `+` in front.
-fn after_plus(text: &[u8]) -> &[u8]
-    ensures value { result.now ≡ after_plus text.now }
-    ensures laws { (n : ℕ) → n < 2 ^ 64 → after_plus (decimal n) ≡ decimal n }
-{
-    if !text.is_empty() && text[0] == b'+' {
-        &text[1..]
-    } else {
-        text
-    }
 }
 
 // The value with one digit more, unless the byte is none or the value is past the limit.
@@ -74,32 +60,18 @@ pub fn number_u64(text: &[u8]) -> Option<u64>
 pub fn number_u32(text: &[u8]) -> Option<u32>
     ensures { result ≡ numeral (2 ^ 32 - 1) text.now }
 {
-    match number(text, u64::from(u32::MAX)) {
-        Some(value) => Some(value as u32),
-        None => None,
-    }
+    u32::try_from(number(text, u64::from(u32::MAX))?).ok()
 }
 
 // The number that the text writes, with at most one `+` or `-` in front.
+#[tactic(auto, using(crate::proofs::Decimal::read_back))]
 pub fn number_i32(text: &[u8]) -> Option<i32>
     ensures value { result ≡ signed_numeral text.now }
     ensures laws { (z : ℤ) → FitsSigned w32 z → signed_numeral (written z) ≡ Some z }
 {
-    match after_minus(text) {
+    match text.strip_prefix(b"-") {
         Some(text) => negative(text),
         None => positive(text),
-    }
-}
-
-// What follows a minus sign in front, if there is one.
-fn after_minus(text: &[u8]) -> Option<&[u8]>
-    ensures value { signed_by text.now (option_map (λ x. x.now) result) ≡ signed_numeral text.now }
-    ensures laws { (z : ℤ) → FitsSigned w32 z → signed_numeral (written z) ≡ Some z }
-{
-    if !text.is_empty() && text[0] == b'-' {
-        Some(&text[1..])
-    } else {
-        None
     }
 }
 
@@ -107,19 +79,14 @@ fn after_minus(text: &[u8]) -> Option<&[u8]>
 fn negative(text: &[u8]) -> Option<i32>
     ensures { result ≡ option_map (λ n. neg_ℤ (pos n)) (unsigned (2 ^ 31) text.now) }
 {
-    match digits(text, 2_147_483_648) {
-        Some(value) => Some(-(value as i64) as i32),
-        None => None,
-    }
+    let value = digits(text, 2_147_483_648)?;
+    i32::try_from(-i64::try_from(value).ok()?).ok()
 }
 
 fn positive(text: &[u8]) -> Option<i32>
     ensures { result ≡ option_map pos (numeral (2 ^ 31 - 1) text.now) }
 {
-    match number(text, 2_147_483_647) {
-        Some(value) => Some(value as i32),
-        None => None,
-    }
+    i32::try_from(number(text, 2_147_483_647)?).ok()
 }
 
 #[cfg(test)]

@@ -1,7 +1,7 @@
 -- The words of a text: one after the other, by the next word, and each a part of the text at its place.
-use Rattle.std.proofs.Common.{◌≡◌, ℕ, suc, ◌+◌, ◌-◌, ◌<◌, ◌≤◌, min, Bool, true, false, cond, not, List, [], ◌∷◌, ◌++◌, length, get_or, take, drop, sym, refl, ap, ◌∙◌, subst, ⊎_elim, append_assoc, add-zero, arith, rules}
+use Rattle.std.proofs.Common.{◌≡◌, ℕ, suc, ◌+◌, ◌-◌, ◌<◌, ◌≤◌, Bool, true, false, cond, not, List, [], ◌∷◌, ◌++◌, length, get_or, take, drop, sym, refl, ap, ◌∙◌, subst, ⊎_elim, append_assoc, add-zero, arith}
 use Rattle.std.specs.List.{AllByRecursion}
-use Rattle.std.proofs.lemmas.List.{length-append, length-drop, take-append-drop, drop_at, drop-drop, same_lists, places}
+use Rattle.std.proofs.lemmas.List.{length-append, length-drop, take-append-drop, drop_at, drop-drop}
 use Rattle.std.proofs.ByRecursion.{All-weaker}
 use Rattle.std.proofs.lemmas.Bool.{not-true, false≢true, cond_both, eq-eqb, ne_eqb, cases_lt}
 use Rattle.words.specs.Words.{separator, Cut, Placed, at, starts, begun, words, words_by, Stands}
@@ -140,9 +140,6 @@ module _ (p : ℕ) (line text word rest : List ℕ) (is : text ≡ drop p line) 
       (λ some. ap (λ t. cond t [] (at (length line - length rest - length word) word ∷ words (length line - length rest) (drop (length line - length rest) line))) (ne_eqb (length word) 0 (λ e. omega arith)) ∙ left_some some)
       (λ h. let none : length word ≡ 0 = omega arith in ap (λ t. cond t [] (at (length line - length rest - length word) word ∷ words (length line - length rest) (drop (length line - length rest) line))) (eq-eqb (length word) 0 none) ∙ left_none none)
       (cases_lt 0 (length word))
-
-pub drop_min : (p : ℕ) (line : List ℕ) → drop (min p (length line)) line ≡ drop p line
-drop_min p line = same_lists _ _ (search (rules, places)) (λ k d h. grind (arith, places))
 
 -- each word that is left stands in the line
 from_start : (p : ℕ) (line : List ℕ) (w : Placed) → Stands p (drop p line) w → Stands 0 line w

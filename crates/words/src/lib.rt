@@ -1,11 +1,12 @@
 // The words of a line: runs of bytes between separators.
 #![tactic(auto)]
 
-ghost use Rattle.std.specs.Prelude.{◌≡◌, ◌≤◌, length, take, drop};
+ghost use Rattle.std.specs.Prelude.{◌≡◌, ◌≤◌, length, drop};
+ghost use Rattle.std.specs.Iterator.{YieldsFirstBy, MakesProgress, item_count};
 ghost use Rattle.std.specs.List.{prefix_len, AllByRecursion};
 ghost use Rattle.std.specs.Str.{bytes_eq};
 ghost use Rattle.words.specs.Words.{separator, letter, blanks, next_word, Cut, words, words_by, Stands};
-ghost use Rattle.words.specs.Left.{left, end, taken, Ends, Part};
+ghost use Rattle.words.specs.Left.{left, end, word_of, Part};
 
 mod rest;
 
@@ -26,46 +27,25 @@ fn is_separator(b: u8) -> bool
 
 // How many separators stand at the front.
 fn blank_len(text: &[u8]) -> usize
-    ensures { result ≡ blanks text.now }
+    ensures value { result ≡ blanks text.now }
+    ensures within { result ≤ length text.now }
 {
-    let mut n = 0;
-    while n < text.len() && is_separator(text[n]) {
-        n += 1;
-    }
-    n
+    text.iter().take_while(|b| is_separator(**b)).count()
 }
 
 // How many letters stand at the front.
 fn word_len(text: &[u8]) -> usize
-    ensures { result ≡ prefix_len letter text.now }
+    ensures value { result ≡ prefix_len letter text.now }
+    ensures within { result ≤ length text.now }
 {
-    let mut n = 0;
-    while n < text.len() && !is_separator(text[n]) {
-        n += 1;
-    }
-    n
-}
-
-// The text from its first letter on.
-fn after_blanks(text: &[u8]) -> &[u8]
-    ensures { result.now ≡ drop (blanks text.now) text.now }
-{
-    let (_, rest) = text.split_at(blank_len(text));
-    rest
-}
-
-// The letters at the front, and what follows them.
-fn letters_first(text: &[u8]) -> (&[u8], &[u8])
-    ensures front { result.0.now ≡ take (prefix_len letter text.now) text.now }
-    ensures back { result.1.now ≡ drop (prefix_len letter text.now) text.now }
-{
-    text.split_at(word_len(text))
+    text.iter().take_while(|b| !is_separator(**b)).count()
 }
 
 fn cut_word(line: &[u8]) -> (&[u8], &[u8])
     ensures { (result.0.now, result.1.now) ≡ next_word line.now }
 {
-    letters_first(after_blanks(line))
+    let (_, text) = line.split_at(blank_len(line));
+    text.split_at(word_len(text))
 }
 
 // The next word, which is empty where none is left, and the rest of the line.
@@ -78,11 +58,13 @@ pub fn next_word(line: &[u8]) -> (&[u8], &[u8])
 
 // The next word of a line from a place on, and the place after it.
 fn word_from(line: &[u8], place: usize) -> (&[u8], usize)
+    requires { place ≤ length line.now }
     ensures value { words_by line.now result.0.now result.1 ≡ words place (drop place line.now) }
-    ensures within { length result.0.now ≤ result.1 }
+    ensures letters { length result.0.now ≤ result.1 }
+    ensures within { result.1 ≤ length line.now }
     ensures parts { AllByRecursion (Stands 0 line.now) (words place (drop place line.now)) }
 {
-    let (_, text) = line.split_at(place.min(line.len()));
+    let (_, text) = line.split_at(place);
     let (letters, rest) = next_word(text);
     (letters, line.len() - rest.len())
 }
@@ -96,29 +78,36 @@ impl<'a> Words<'a> {
         Words { line, place: 0 }
     }
 
-    // The next word and what is left after it, or nothing where no word is left.
-    pub fn next(self) -> Option<(Word<'a>, Words<'a>)>
-        ensures value { taken result ≡ left self.entry }
-        ensures same { Ends self.entry result }
-        ensures parts { Part self.entry result }
+    // The line's length: the place where a word is missing.
+    pub fn end(self) -> usize
+        ensures { result ≡ end self.entry }
+    {
+        self.line.len()
+    }
+}
+
+// The words that are left, from the first on.
+impl<'a> Iterator for Words<'a> {
+    type Item = Word<'a>;
+
+    ghost next_gives = { YieldsFirstBy word_of left };
+
+    ghost remaining = { item_count left };
+
+    #[tactic(auto, using(crate::proofs::Left::fewer))]
+    fn next(&mut self) -> Option<Word<'a>>
+        ensures steps { YieldsFirstBy word_of left self.old result self.new }
+        ensures goes { MakesProgress (λ _. Unit {0}) (item_count left) self.old result self.new }
+        ensures same { self.new.line.now ≡ self.old.line.now }
+        ensures parts { Part self.old.line.now result }
     {
         let line = self.line;
         let (letters, after) = word_from(line, self.place);
         if letters.is_empty() {
             return None;
         }
-        let word = Word {
-            letters,
-            place: after - letters.len(),
-        };
-        let left = Words { line, place: after };
-        Some((word, left))
-    }
-
-    // The line's length: the place where a word is missing.
-    pub fn end(self) -> usize
-        ensures { result ≡ end self.entry }
-    {
-        self.line.len()
+        self.place = after;
+        let place = after - letters.len();
+        Some(Word { letters, place })
     }
 }
