@@ -1,10 +1,12 @@
 -- The first place of a line among lines.
-use Rattle.std.proofs.Common.{◌≡◌, ℕ, zero, suc, ◌+◌, ◌<◌, true, false, eqb, List, [], ◌∷◌, length, Some, None, Option, sym, refl, ap, ◌∙◌, ⊎_elim, arith}
-use Rattle.std.specs.List.{slice_get}
+use Rattle.std.proofs.Common.{zero-add, ◌≡◌, ℕ, zero, suc, ◌+◌, ◌<◌, ◌≤◌, Bool, true, false, cond, not, ltb, eqb, List, [], ◌∷◌, length, Some, None, Option, sym, refl, ap, ◌∙◌, ⊎_elim, arith}
+use Rattle.std.specs.List.{slice_get, position, position_or_len}
+use Rattle.std.specs.Option.{option_map}
 use Rattle.std.specs.Str.{bytes_eq}
+use Rattle.std.proofs.lemmas.Bool.Decides.{nat_tests}
 use Rattle.std.proofs.lemmas.Slice.Eq.{bytes_eq-Decides}
 use Rattle.std.proofs.lemmas.Bool.{both_ways, cases_Bool, cond-false, ne_eqb}
-use Rattle.lines.specs.Lines.{split}
+use Rattle.lines.specs.Lines.{feed, onto, split}
 use Rattle.books.specs.Terms.{place, listed, ListedLaws}
 
 -- j places on from n stands the line, and not before
@@ -74,3 +76,31 @@ none text id some e =
 
 pub listed_laws : (text : List ℕ) → ListedLaws text
 listed_laws text = record { holds = holds text; first = first text; none = none text; empty = refl }
+
+-- the place counted from n is n more than the position
+position_step : (t : Bool) (n m k : ℕ) (r : Option ℕ) → r ≡ option_map (λ j. n + 1 + j) (cond (ltb m k) (Some m) None)
+    → cond t (Some n) r ≡ option_map (λ j. n + j) (cond (ltb (cond (not t) (1 + m) 0) (suc k)) (Some (cond (not t) (1 + m) 0)) None)
+position_step true n m k r e = grind arith
+position_step false n m k r e = grind (arith, nat_tests)
+
+place-position : (n : ℕ) (id : List ℕ) (ls : List (List ℕ)) → place n id ls ≡ option_map (λ k. n + k) (position (λ l. bytes_eq l id) ls)
+place-position n id [] = refl
+place-position n id (l ∷ ls) = position_step (bytes_eq l id) n (position_or_len (λ l. bytes_eq l id) ls) (length ls) (place (n + 1) id ls) (place-position (n + 1) id ls)
+
+from_zero : (o : Option ℕ) → option_map (λ k. 0 + k) o ≡ o
+from_zero None = refl
+from_zero (Some k) = ap Some (zero-add k)
+
+pub listed_by : (text id : List ℕ) → 0 < length id → listed text id ≡ position (λ l. bytes_eq l id) (split text)
+listed_by text id some =
+    cond-false (eqb (length id) 0) None (place 0 id (split text)) (ne_eqb (length id) 0 (λ z. omega arith)) ∙ place-position 0 id (split text) ∙ from_zero _
+
+-- each line takes a byte at least
+onto_le : (t : Bool) (b n : ℕ) (ls : List (List ℕ)) → length ls ≤ n → length (cond t ([] ∷ ls) (onto b ls)) ≤ suc n
+onto_le true b n ls h = omega arith
+onto_le false b n [] h = omega arith
+onto_le false b n (l ∷ ls) h = omega arith
+
+pub lines_le : (text : List ℕ) → length (split text) ≤ length text
+lines_le [] = omega arith
+lines_le (b ∷ bs) = onto_le (feed b) b (length bs) (split bs) (lines_le bs)

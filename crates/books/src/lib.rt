@@ -4,9 +4,12 @@
 #![tactic(auto)]
 
 ghost use Rattle.std.specs.Prelude.{◌≡◌, ℕ, List, Option as Maybe};
+ghost use Rattle.std.specs.List.{position};
+ghost use Rattle.std.specs.Str.{bytes_eq};
+ghost use Rattle.lines.specs.Lines.{split};
 ghost use Rattle.books.specs.Terms.{shape, numbered, NumberedLaws, listed, ListedLaws};
 
-use words::same_bytes;
+use lines::Lines;
 
 pub trait Book {
     ghost terms: { Self → List ℕ → Maybe ℕ };
@@ -17,25 +20,19 @@ pub trait Book {
 }
 
 // `#` and a number below the limit, with no zero in front of another digit, means that number.
-#[derive(Drop)]
+#[derive(Clone, Copy, Debug, PartialEq, Eq)]
 pub struct Numbered {
     limit: usize,
 }
 
 impl Numbered {
+    #[tactic(auto, using(crate::proofs::Ids::numbered_laws))]
     pub fn new(limit: usize) -> Self
         ensures value { result.limit ≡ limit }
         ensures laws { NumberedLaws limit }
     {
-        numbered_below(limit)
+        Numbered { limit }
     }
-}
-
-// What `Numbered::new` makes, apart from the laws of it.
-fn numbered_below(limit: usize) -> Numbered
-    ensures { result.limit ≡ limit }
-{
-    Numbered { limit }
 }
 
 impl Book for Numbered {
@@ -52,11 +49,8 @@ fn number_of(limit: usize, id: &[u8]) -> Option<usize>
     if limit == 0 || !is_numbered(id) {
         return None;
     }
-    let (_, digits) = id.split_at(1);
-    match numbers::digits(digits, (limit - 1) as u64) {
-        Some(term) => Some(term as usize),
-        None => None,
-    }
+    let term = numbers::digits(&id[1..], (limit - 1) as u64)?;
+    Some(term as usize)
 }
 
 fn is_numbered(id: &[u8]) -> bool
@@ -66,25 +60,19 @@ fn is_numbered(id: &[u8]) -> bool
 }
 
 // An identifier that is not empty means the place of the first line of the text that equals it.
-#[derive(Drop)]
+#[derive(Clone, Copy, Debug, PartialEq, Eq)]
 pub struct Listed<'a> {
     text: &'a [u8],
 }
 
 impl<'a> Listed<'a> {
+    #[tactic(auto, using(crate::proofs::Places::listed_laws))]
     pub fn new(text: &'a [u8]) -> Self
         ensures value { result.text.now ≡ text.now }
         ensures laws { ListedLaws text.now }
     {
-        listed_in(text)
+        Listed { text }
     }
-}
-
-// What `Listed::new` makes, apart from the laws of it.
-fn listed_in<'a>(text: &'a [u8]) -> Listed<'a>
-    ensures { result.text.now ≡ text.now }
-{
-    Listed { text }
 }
 
 impl<'a> Book for Listed<'a> {
@@ -95,22 +83,21 @@ impl<'a> Book for Listed<'a> {
     }
 }
 
+#[tactic(auto, using(crate::proofs::Places::listed_by))]
 fn place_of(text: &[u8], id: &[u8]) -> Option<usize>
     ensures { result ≡ listed text.now id.now }
 {
     if id.is_empty() {
         return None;
     }
-    let mut rest = text;
-    let mut place: usize = 0;
-    'lines: while let Some((line, after)) = lines::first_line(rest) {
-        if same_bytes(line, id) {
-            return Some(place);
-        }
-        rest = after;
-        place += 1;
-    }
-    None
+    line_place(text, id)
+}
+
+// The place of the first line that equals the identifier.
+fn line_place(text: &[u8], id: &[u8]) -> Option<usize>
+    ensures { result ≡ position (λ l. bytes_eq l id.now) (split text.now) }
+{
+    Lines::of(text).position(|line| line == id)
 }
 
 #[cfg(test)]

@@ -1,10 +1,10 @@
 -- Lines of a text and its first line.
-use Rattle.std.proofs.Common.{◌≡◌, ℕ, suc, ◌+◌, ◌<◌, ◌≤◌, Bool, true, false, cond, not, eqb, ltb, List, [], ◌∷◌, ◌++◌, length, get_or, take, drop, Some, None, sym, refl, ap, ◌∙◌, subst, add-one, one-add, arith}
+use Rattle.std.proofs.Common.{◌≡◌, ℕ, suc, ◌+◌, ◌<◌, ◌≤◌, Bool, true, false, cond, not, List, [], ◌∷◌, ◌++◌, length, take, drop, Some, Option, sym, refl, ap, ◌∙◌, subst, add-one, one-add, arith}
 use Rattle.std.specs.List.{AllByRecursion}
-use Rattle.std.proofs.lemmas.List.{append_assoc, length-drop, take-append-drop, take_all}
-use Rattle.std.proofs.lemmas.List.Sums.{prefix_len-le-length, prefix_len-drop_yes, prefix_len-drop_no, prefix_len-drop_all}
-use Rattle.std.proofs.lemmas.Bool.{eqb-true, ne_eqb, le-ltb, cond-false}
-use Rattle.lines.specs.Lines.{feed, Plain, onto, split, line_len, end_from, after_line, first_line, unless_empty, ended, closed, Cut, Laws}
+use Rattle.std.proofs.lemmas.List.{append_assoc, drop-drop, length-drop, take-append-drop, take_all}
+use Rattle.std.proofs.lemmas.List.Sums.{prefix_len-le-length}
+use Rattle.std.proofs.lemmas.Bool.{eqb-true}
+use Rattle.lines.specs.Lines.{feed, Plain, onto, split, line_len, after_line, first_line, ended, closed, Cut, Laws}
 
 -- a first line that its 0x0A ends
 pub split_feed : (xs ys : List ℕ) → Plain xs → split (xs ++ 10 ∷ ys) ≡ xs ∷ split ys
@@ -109,30 +109,13 @@ first_cuts (b ∷ bs) =
 pub line_len_le : (text : List ℕ) → line_len text ≤ length text
 line_len_le text = prefix_len-le-length (λ b. not (feed b)) text
 
-first_line_by : (text line rest : List ℕ) → line ≡ take (line_len text) text → rest ≡ after_line text → first_line text ≡ unless_empty text (line, rest)
-first_line_by [] line rest front back = refl
-first_line_by (b ∷ bs) line rest front back =
-    ap Some (λ i. (sym front i, sym back i))
-    ∙ sym (cond-false (eqb (length (b ∷ bs)) 0) None (Some (line, rest)) (ne_eqb (length (b ∷ bs)) 0 (λ e. omega arith)))
+pub cuts_by : (text : List ℕ) (r : Option (List ℕ × List ℕ)) → r ≡ first_line text → Cut text r
+cuts_by text r e = subst (Cut text) (sym e) (first_cuts text)
 
-pub first_line_parts : (text line rest : List ℕ) → line ≡ take (line_len text) text → rest ≡ after_line text
-    → (first_line text ≡ unless_empty text (line, rest)) × Cut text (unless_empty text (line, rest))
-first_line_parts text line rest front back =
-    let is = first_line_by text line rest front back in
-    (is, subst (Cut text) is (first_cuts text))
-
--- the end of the first line, looked for from a place on
-end_step : (t : Bool) (text : List ℕ) (n : ℕ) → n < length text → not (feed (get_or text n 0)) ≡ t → end_from n text ≡ cond t (end_from (n + 1) text) n
-end_step true text n lt e = omega (arith, prefix_len-drop_yes (λ b. not (feed b)) text n 0 lt e)
-end_step false text n lt e = omega (arith, prefix_len-drop_no (λ b. not (feed b)) text n 0 lt e)
-
-pub end_within : (text : List ℕ) (n : ℕ) → n < length text → end_from n text ≡ cond (not (feed (get_or text n 0))) (end_from (n + 1) text) n
-end_within text n lt = end_step (not (feed (get_or text n 0))) text n lt refl
-
-pub end_past : (text : List ℕ) (n : ℕ) → length text ≤ n → end_from n text ≡ cond (ltb n (length text)) (end_from (n + 1) text) n
-end_past text n le =
-    let here : end_from n text ≡ n = omega (arith, prefix_len-drop_all (λ b. not (feed b)) text n le) in
-    here ∙ sym (cond-false (ltb n (length text)) (end_from (n + 1) text) n (le-ltb n (length text) le))
+pub first_line_by : (text line rest : List ℕ) → 0 < length text → line ≡ take (line_len text) text → rest ≡ drop 1 (drop (line_len text) text) → Some (line, rest) ≡ first_line text
+first_line_by [] line rest some front back = absurd (omega arith)
+first_line_by (b ∷ bs) line rest some front back =
+    ap Some (λ i. (front i, (back ∙ drop-drop 1 (line_len (b ∷ bs)) (b ∷ bs)) i))
 
 -- a text that begins with bytes of its first line
 pub take_line : (xs ys : List ℕ) → Plain xs → take (line_len (xs ++ ys)) (xs ++ ys) ≡ xs ++ take (line_len ys) ys

@@ -3,10 +3,8 @@
 --   Plain          no byte is 0x0A
 --   split          the lines of a text: an empty text has none, and what follows the last 0x0A is a line unless it is empty
 --   line_len       how many bytes stand before the first 0x0A
---   end_from       where the run of bytes other than 0x0A from a place on ends
 --   after_line     what follows the first 0x0A
 --   first_line     the first line and what follows its 0x0A
---   unless_empty   a line with what follows it, or none where the text is empty
 --   ended          lines, each followed by 0x0A, joined
 --   both_now       the bytes of two slices
 --   closed         the text is empty or its last byte is 0x0A
@@ -33,18 +31,12 @@ split (b ∷ bs) = cond (feed b) ([] ∷ split bs) (onto b (split bs))
 abbrev pub line_len : List ℕ → ℕ
 line_len text = prefix_len (λ b. not (feed b)) text
 
-abbrev pub end_from : ℕ → List ℕ → ℕ
-end_from n text = n + line_len (drop n text)
-
 abbrev pub after_line : List ℕ → List ℕ
 after_line text = drop (line_len text + 1) text
 
 abbrev pub first_line : List ℕ → Option (List ℕ × List ℕ)
 first_line [] = None
 first_line (b ∷ bs) = Some (take (line_len (b ∷ bs)) (b ∷ bs), after_line (b ∷ bs))
-
-abbrev pub unless_empty : List ℕ → List ℕ × List ℕ → Option (List ℕ × List ℕ)
-unless_empty text cut = cond (length text == 0) None (Some cut)
 
 abbrev pub ended : List (List ℕ) → List ℕ
 ended ls = flat_map (λ l. l ++ 10 ∷ []) ls

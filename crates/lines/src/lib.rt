@@ -1,72 +1,87 @@
 // A text as lines, cut at the byte 0x0A alone.
 #![tactic(auto)]
 
-ghost use Rattle.std.specs.Prelude.{◌≡◌, ◌+◌, ◌<◌, T, length, if◌then◌else◌};
+ghost use Rattle.std.specs.Prelude.{◌≡◌};
+ghost use Rattle.std.specs.Iterator.{YieldsFirstRef, item_count};
 ghost use Rattle.std.specs.Option.{option_map};
-ghost use Rattle.lines.specs.Lines.{line_len, end_from, first_line, unless_empty, both_now, Cut, Laws};
+ghost use Rattle.lines.specs.Lines.{line_len, split, first_line, both_now, Cut, Laws};
+ghost use Rattle.lines.specs.Left.{left};
+
+mod left;
+
+pub use left::Lines;
 
 // How many bytes stand before the first 0x0A: all of them where there is none.
 pub fn line_len(text: &[u8]) -> usize
     ensures { result ≡ line_len text.now }
 {
-    let mut n = 0;
-    while goes_on(text, n) {
-        n += 1;
-    }
-    n
-}
-
-// Whether the byte at a place stands in the line that goes on there.
-fn goes_on(text: &[u8], n: usize) -> bool
-    ensures value { end_from n text.now ≡ (if result then end_from (n + 1) text.now else n) }
-    ensures within { T result → n < length text.now }
-{
-    n < text.len() && text[n] != b'\n'
+    text.iter().take_while(|b| **b != b'\n').count()
 }
 
 // The first line and what follows its 0x0A; none where the text is empty.
+#[tactic(auto, using(crate::proofs::Splits::cuts_by, crate::proofs::Splits::split_laws))]
 pub fn first_line(text: &[u8]) -> Option<(&[u8], &[u8])>
     ensures value { option_map both_now result ≡ first_line text.now }
     ensures cases { Cut text.now (option_map both_now result) }
     ensures laws { Laws text.now }
 {
-    let (line, rest) = cut_line(text);
+    cut_line(text)
+}
+
+#[tactic(auto, using(crate::proofs::Splits::line_len_le, crate::proofs::Splits::first_line_by))]
+fn cut_line(text: &[u8]) -> Option<(&[u8], &[u8])>
+    ensures { option_map both_now result ≡ first_line text.now }
+{
     if text.is_empty() {
         return None;
     }
-    Some((line, rest))
+    let (line, rest) = text.split_at(line_len(text));
+    match rest.split_first() {
+        Some((_feed, after)) => Some((line, after)),
+        None => Some((line, rest)),
+    }
 }
 
-// The bytes before the first 0x0A and those after it.
-fn cut_line(text: &[u8]) -> (&[u8], &[u8])
-    ensures value { first_line text.now ≡ unless_empty text.now (both_now result) }
-    ensures cases { Cut text.now (unless_empty text.now (both_now result)) }
-    ensures laws { Laws text.now }
-{
-    let end = line_len(text);
-    if end >= text.len() {
-        return (text, &[]);
+impl<'a> Lines<'a> {
+    pub fn of(text: &'a [u8]) -> Self
+        ensures { left result ≡ split text.now }
+    {
+        Lines { text }
     }
-    (&text[0..end], &text[end + 1..])
+}
+
+impl<'a> Iterator for Lines<'a> {
+    type Item = &'a [u8];
+
+    ghost next_gives = { YieldsFirstRef left };
+
+    ghost remaining = { item_count left };
+
+    fn next(&mut self) -> Option<&'a [u8]> {
+        let (line, rest) = first_line(self.text)?;
+        self.text = rest;
+        Some(line)
+    }
 }
 
 #[cfg(test)]
 mod tests {
     use super::*;
 
-    fn starts<'x>(text: &'x [u8], line: &'x [u8], rest: &'x [u8]) -> bool {
-        match first_line(text) {
-            Some((a, b)) => a == line && b == rest,
-            None => false,
-        }
-    }
-
     #[test]
     fn lines_of_a_text(rt: HostRuntime) {
-        assert!(rt; starts(b"a\r\n\nb", b"a\r", b"\nb"), "0x0D ends no line");
-        assert!(rt; starts(b"\nb", b"", b"b"));
-        assert!(rt; starts(b"b", b"b", b""));
-        assert!(rt; first_line(b"").is_none());
+        let (line, rest): (&[u8], &[u8]) = (b"a\r", b"\nb");
+        assert_eq!(rt;
+            first_line(b"a\r\n\nb"),
+            Some((line, rest)),
+            "0x0D ends no line"
+        );
+        let (line, rest): (&[u8], &[u8]) = (b"", b"b");
+        assert_eq!(rt; first_line(b"\nb"), Some((line, rest)));
+        let (line, rest): (&[u8], &[u8]) = (b"b", b"");
+        assert_eq!(rt; first_line(b"b"), Some((line, rest)));
+        assert_eq!(rt; first_line(b""), None);
+        assert_eq!(rt; Lines::of(b"a\n\nb").count(), 3);
         assert_eq!(rt; line_len(b"ab\nc"), 2);
     }
 }
