@@ -1,15 +1,14 @@
 -- What the program's answers mean, as words and numbers.
 --   shown r       what a reading of a line gave
 --   next_shown r  what the cursor over named literals gave
---   read_of r     what a reading of words gave, with the words left; word_read and named_read the same for a word and a named literal
+--   read_of r w   what a reading of words gave, with the words w left; word_read and named_read the same for a word and a named literal
 --   OfLine l r    what an event leaves to be read is left of the line l
---   Kept w r      the words left after a reading of w are of the same line; KeptNamed the same for a named literal
 use Rattle.std.specs.Prelude.{◌≡◌, ℕ, List, Some, None, Ok, Err, Option, Result}
 use Rattle.refusal.specs.declared.refusals.Refusal.{Refusal}
 use Rattle.words.specs.declared.rest.Word.{Word}
 use Rattle.words.specs.declared.rest.Words.{Words}
 use Rattle.words.specs.Left.{left, end, word_of}
-use Rattle.words.specs.Words.{Placed, at}
+use Rattle.words.specs.Words.{Placed}
 use Rattle.events.specs.declared.shapes.Event.{Event}
 use Rattle.events.specs.declared.shapes.Event.TheVariants as event
 use Rattle.events.specs.declared.shapes.NamedLiteral.{NamedLiteral}
@@ -18,7 +17,7 @@ use Rattle.events.specs.Lines.{Said}
 use Rattle.events.specs.Literals.{Read, Named, valued}
 
 abbrev pub literal_of : NamedLiteral → Named
-literal_of n = valued (at n.place n.id.now) n.value
+literal_of n = valued (word_of n.id) n.value
 
 abbrev pub said_by : Event → Said
 said_by event.Other = line.other
@@ -34,33 +33,23 @@ shown (Ok e) = Ok (said_by e)
 shown (Err r) = Err r
 
 -- a value and the words left, or a refusal
-abbrev pub read_of : {A : Type 0} → Result (A × Words) Refusal → Read A
-read_of (Ok r) = Ok (r.0, left r.1)
-read_of (Err e) = Err e
+abbrev pub read_of : {A : Type 0} → Result A Refusal → Words → Read A
+read_of (Ok a) w = Ok (a, left w)
+read_of (Err e) w = Err e
 
-abbrev pub word_read : Result (Word × Words) Refusal → Read Placed
-word_read (Ok r) = Ok (word_of r.0, left r.1)
-word_read (Err e) = Err e
+abbrev pub word_read : Result Word Refusal → Words → Read Placed
+word_read (Ok r) w = Ok (word_of r, left w)
+word_read (Err e) w = Err e
 
-abbrev pub named_read : Result (Option (NamedLiteral × Words)) Refusal → Result (Option (Named × List Placed)) Refusal
-named_read (Ok None) = Ok None
-named_read (Ok (Some r)) = Ok (Some (literal_of r.0, left r.1))
-named_read (Err e) = Err e
+abbrev pub named_read : Result (Option NamedLiteral) Refusal → Words → Result (Option (Named × List Placed)) Refusal
+named_read (Ok None) w = Ok None
+named_read (Ok (Some n)) w = Ok (Some (literal_of n, left w))
+named_read (Err e) w = Err e
 
 abbrev pub next_shown : Result (Option NamedLiteral) Refusal → Result (Option Named) Refusal
 next_shown (Ok None) = Ok None
 next_shown (Ok (Some n)) = Ok (Some (literal_of n))
 next_shown (Err e) = Err e
-
--- the words left after a reading are of the same line
-abbrev pub Kept : {A : Type 0} → Words → Result (A × Words) Refusal → Type 0
-Kept w (Ok r) = r.1.line.now ≡ w.line.now
-Kept w (Err e) = Unit {0}
-
-abbrev pub KeptNamed : Words → Result (Option (NamedLiteral × Words)) Refusal → Type 0
-KeptNamed w (Ok None) = Unit {0}
-KeptNamed w (Ok (Some r)) = r.1.line.now ≡ w.line.now
-KeptNamed w (Err e) = Unit {0}
 
 -- what an event leaves to be read is left of the line itself
 abbrev pub OfLine : List ℕ → Result Event Refusal → Type 0

@@ -3,10 +3,9 @@ ghost use Rattle.std.specs.Prelude.{◌≡◌};
 ghost use Rattle.words.specs.Left.{left, end};
 ghost use Rattle.events.specs.Lines.{integer, by_kind, event_of, line_kind};
 ghost use Rattle.events.specs.Laws.{Names, NumberedAlike, Steady, Reached};
-ghost use Rattle.events.specs.Shown.{read_of, shown, Kept, OfLine};
+ghost use Rattle.events.specs.Shown.{read_of, shown, OfLine};
 ghost use Rattle.events.specs.Worked.{Worked};
 
-use crate::keywords::line_kind;
 use crate::literals::{check_literals, named_literal};
 use crate::reasons::{expect_completed, read_reason};
 use crate::shapes::{Event, LineKind, Literals, Mode};
@@ -14,54 +13,57 @@ use numbers::number_u64;
 use refusal::Refusal;
 use words::Words;
 
-// A number of 64 bits, not below the least, and the words after it.
-fn integer<'a>(words: Words<'a>, least: u64) -> Result<(u64, Words<'a>), Refusal>
-    ensures value { read_of result ≡ integer least (end words.entry) (left words.entry) }
-    ensures same { Kept words.entry result }
+// A number of 64 bits, not below the least.
+fn integer(words: &mut Words, least: u64) -> Result<u64, Refusal>
+    ensures value { read_of result words.new ≡ integer least (end words.old) (left words.old) }
+    ensures same { words.new.line.now ≡ words.old.line.now }
 {
-    let Some((word, rest)) = words.next() else {
+    let Some(word) = words.next() else {
         return Err(Refusal::UnexpectedNewline { place: words.end() });
     };
     match number_u64(word.letters) {
-        Some(number) if number >= least => Ok((number, rest)),
+        Some(number) if number >= least => Ok(number),
         _ => Err(Refusal::InvalidFrameInteger { place: word.place }),
     }
 }
 
-fn assign<'a>(words: Words<'a>) -> Result<Event<'a>, Refusal>
+fn assign<'a>(mut words: Words<'a>) -> Result<Event<'a>, Refusal>
     ensures value { shown result ≡ by_kind LineKind.Assign (end words.entry) (left words.entry) }
     ensures same { OfLine words.entry.line.now result }
 {
-    let Some((literal, rest)) = named_literal(words)? else {
+    let Some(literal) = named_literal(&mut words)? else {
         return Err(Refusal::UnexpectedNewline { place: words.end() });
     };
-    Ok(Event::Assign { literal, rest })
+    Ok(Event::Assign {
+        literal,
+        rest: words,
+    })
 }
 
-fn push<'a>(words: Words<'a>) -> Result<Event<'a>, Refusal>
+fn push<'a>(mut words: Words<'a>) -> Result<Event<'a>, Refusal>
     ensures value { shown result ≡ by_kind LineKind.Push (end words.entry) (left words.entry) }
     ensures same { OfLine words.entry.line.now result }
 {
-    let (scope, rest) = integer(words, 0)?;
-    expect_completed(rest)?;
+    let scope = integer(&mut words, 0)?;
+    expect_completed(words)?;
     Ok(Event::Push { scope })
 }
 
-fn pop<'a>(words: Words<'a>) -> Result<Event<'a>, Refusal>
+fn pop<'a>(mut words: Words<'a>) -> Result<Event<'a>, Refusal>
     ensures value { shown result ≡ by_kind LineKind.Pop (end words.entry) (left words.entry) }
     ensures same { OfLine words.entry.line.now result }
 {
-    let (count, rest) = integer(words, 1)?;
-    let (scope, after) = integer(rest, 0)?;
-    expect_completed(after)?;
+    let count = integer(&mut words, 1)?;
+    let scope = integer(&mut words, 0)?;
+    expect_completed(words)?;
     Ok(Event::Pop { count, scope })
 }
 
-fn begin_check<'a>(words: Words<'a>) -> Result<Event<'a>, Refusal>
+fn begin_check<'a>(mut words: Words<'a>) -> Result<Event<'a>, Refusal>
     ensures value { shown result ≡ by_kind LineKind.BeginCheck (end words.entry) (left words.entry) }
     ensures same { OfLine words.entry.line.now result }
 {
-    let (scope, _) = integer(words, 0)?;
+    let scope = integer(&mut words, 0)?;
     Ok(Event::BeginCheck { scope })
 }
 
@@ -69,10 +71,11 @@ fn event<'a>(line: &'a [u8]) -> Result<Event<'a>, Refusal>
     ensures value { shown result ≡ event_of line.now }
     ensures same { OfLine line.now result }
 {
-    let Some((word, rest)) = Words::of(line).next() else {
+    let mut rest = Words::of(line);
+    let Some(word) = rest.next() else {
         return Ok(Event::Other);
     };
-    match line_kind(word.letters) {
+    match LineKind::from(word.letters) {
         LineKind::Other => Ok(Event::Other),
         LineKind::Assign => assign(rest),
         LineKind::DecideAndOr => Ok(Event::DecideAndOr),
@@ -97,8 +100,12 @@ pub fn read_event(line: &[u8]) -> Result<Event<'_>, Refusal>
     event(line)
 }
 
-fn kind(line: &[u8], mode: Mode) -> Result<LineKind, Refusal>
-    ensures { result ≡ line_kind mode line.now }
+// The kind of a line, once all of it is read; no book is asked.
+#[tactic(auto, using(crate::proofs::Lawful::kind_numbered, crate::proofs::Lawful::steady_kind))]
+pub fn check_line(line: &[u8], mode: Mode) -> Result<LineKind, Refusal>
+    ensures value { result ≡ line_kind mode line.now }
+    ensures numbers { NumberedAlike mode line.now }
+    ensures steady { Steady (line_kind mode) }
 {
     match event(line)? {
         Event::Other => Ok(LineKind::Other),
@@ -112,13 +119,4 @@ fn kind(line: &[u8], mode: Mode) -> Result<LineKind, Refusal>
         Event::Pop { .. } => Ok(LineKind::Pop),
         Event::BeginCheck { .. } => Ok(LineKind::BeginCheck),
     }
-}
-
-// The kind of a line, once all of it is read; no book is asked.
-pub fn check_line(line: &[u8], mode: Mode) -> Result<LineKind, Refusal>
-    ensures value { result ≡ line_kind mode line.now }
-    ensures numbers { NumberedAlike mode line.now }
-    ensures steady { Steady (line_kind mode) }
-{
-    kind(line, mode)
 }

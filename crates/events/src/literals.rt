@@ -4,59 +4,45 @@ ghost use Rattle.words.specs.Left.{left, end, word_of};
 ghost use Rattle.events.specs.Laws.{NamedPart};
 ghost use Rattle.events.specs.Lines.{passed};
 ghost use Rattle.events.specs.Literals.{after_not, named, variable, bare, p_literal, prefixed, solver, next_literal, literals, given, Shorter};
-ghost use Rattle.events.specs.Shown.{read_of, word_read, named_read, next_shown, Kept, KeptNamed};
+ghost use Rattle.events.specs.Shown.{read_of, word_read, named_read, next_shown};
 
-use crate::keywords::{literal_word, strip_first, strip_last};
 use crate::shapes::{LineKind, LiteralWord, Literals, Mode, NamedLiteral, SolverLiteral};
 use numbers::number_u32;
 use refusal::Refusal;
 use words::{Word, Words, same_bytes};
 
 // The word that follows `(not`, without the `)` that it must end in.
-fn closed_word<'a>(words: Words<'a>) -> Result<(Word<'a>, Words<'a>), Refusal>
-    ensures value { word_read result ≡ after_not (end words.entry) (left words.entry) }
-    ensures same { Kept words.entry result }
+fn closed_word<'a>(words: &mut Words<'a>) -> Result<Word<'a>, Refusal>
+    ensures value { word_read result words.new ≡ after_not (end words.old) (left words.old) }
+    ensures same { words.new.line.now ≡ words.old.line.now }
 {
-    let Some((word, rest)) = words.next() else {
+    let Some(Word { letters, place }) = words.next() else {
         return Err(Refusal::UnexpectedNewline { place: words.end() });
     };
-    let place = word.place;
-    let Some(letters) = strip_last(word.letters, b')') else {
+    let Some(letters) = letters.strip_suffix(b")") else {
         return Err(Refusal::TupleMissingParens { place });
     };
-    Ok((Word { letters, place }, rest))
+    Ok(Word { letters, place })
 }
 
-// The next named literal and the words after it, or nothing where no word is left.
-pub(crate) fn named_literal<'a>(
-    words: Words<'a>,
-) -> Result<Option<(NamedLiteral<'a>, Words<'a>)>, Refusal>
-    ensures value { named_read result ≡ named (end words.entry) (left words.entry) }
-    ensures same { KeptNamed words.entry result }
+// The next named literal, or nothing where no word is left.
+pub(crate) fn named_literal<'a>(words: &mut Words<'a>) -> Result<Option<NamedLiteral<'a>>, Refusal>
+    ensures value { named_read result words.new ≡ named (end words.old) (left words.old) }
+    ensures same { words.new.line.now ≡ words.old.line.now }
 {
-    let Some((word, rest)) = words.next() else {
+    let Some(word) = words.next() else {
         return Ok(None);
     };
-    let place = word.place;
-    match literal_word(word.letters) {
-        LiteralWord::Constant => Err(Refusal::BoolLiteral { place }),
+    match LiteralWord::from(word.letters) {
+        LiteralWord::Constant => Err(Refusal::BoolLiteral { place: word.place }),
         LiteralWord::Not => {
-            let (word, rest) = closed_word(rest)?;
-            let literal = NamedLiteral {
-                id: word.letters,
-                value: false,
-                place: word.place,
-            };
-            Ok(Some((literal, rest)))
+            let id = closed_word(words)?;
+            Ok(Some(NamedLiteral { id, value: false }))
         }
-        LiteralWord::Id => {
-            let literal = NamedLiteral {
-                id: word.letters,
-                value: true,
-                place,
-            };
-            Ok(Some((literal, rest)))
-        }
+        LiteralWord::Id => Ok(Some(NamedLiteral {
+            id: word,
+            value: true,
+        })),
     }
 }
 
@@ -74,7 +60,7 @@ fn variable(digits: &[u8], value: bool, place: usize) -> Result<SolverLiteral, R
 fn bare_literal(word: Word) -> Result<SolverLiteral, Refusal>
     ensures { result ≡ bare (word_of word.entry) }
 {
-    match strip_first(word.letters, b'-') {
+    match word.letters.strip_prefix(b"-") {
         Some(digits) => variable(digits, false, word.place),
         None => variable(word.letters, true, word.place),
     }
@@ -84,44 +70,38 @@ fn bare_literal(word: Word) -> Result<SolverLiteral, Refusal>
 fn p_literal(word: Word, value: bool) -> Result<SolverLiteral, Refusal>
     ensures { result ≡ p_literal value (word_of word.entry) }
 {
-    let Some(digits) = strip_first(word.letters, b'p') else {
+    let Some(digits) = word.letters.strip_prefix(b"p") else {
         return Err(Refusal::BoolLiteralNotP { place: word.place });
     };
     variable(digits, value, word.place)
 }
 
-fn prefixed_literal<'a>(
-    word: Word<'a>,
-    rest: Words<'a>,
-) -> Result<(SolverLiteral, Words<'a>), Refusal>
-    ensures { read_of result ≡ prefixed (end rest.entry) (word_of word.entry) (left rest.entry) }
+fn prefixed_literal(word: Word, rest: &mut Words) -> Result<SolverLiteral, Refusal>
+    ensures { read_of result rest.new ≡ prefixed (end rest.old) (word_of word.entry) (left rest.old) }
 {
     if !same_bytes(word.letters, b"(not") {
-        return Ok((p_literal(word, true)?, rest));
+        return p_literal(word, true);
     }
-    let (inner, after) = closed_word(rest)?;
-    Ok((p_literal(inner, false)?, after))
+    let inner = closed_word(rest)?;
+    p_literal(inner, false)
 }
 
-// The next solver literal and the words after it.
-pub(crate) fn solver_literal<'a>(
-    words: Words<'a>,
-    mode: Mode,
-) -> Result<(SolverLiteral, Words<'a>), Refusal>
-    ensures { read_of result ≡ solver mode (end words.entry) (left words.entry) }
+// The next solver literal.
+pub(crate) fn solver_literal(words: &mut Words, mode: Mode) -> Result<SolverLiteral, Refusal>
+    ensures { read_of result words.new ≡ solver mode (end words.old) (left words.old) }
 {
-    let Some((word, rest)) = words.next() else {
+    let Some(word) = words.next() else {
         return Err(Refusal::UnexpectedNewline { place: words.end() });
     };
     if same_bytes(word.letters, b"true") {
-        return Ok((SolverLiteral::Constant(true), rest));
+        return Ok(SolverLiteral::Constant(true));
     }
     if same_bytes(word.letters, b"false") {
-        return Ok((SolverLiteral::Constant(false), rest));
+        return Ok(SolverLiteral::Constant(false));
     }
     match mode {
-        Mode::Bare => Ok((bare_literal(word)?, rest)),
-        Mode::Prefixed => prefixed_literal(word, rest),
+        Mode::Bare => bare_literal(word),
+        Mode::Prefixed => prefixed_literal(word, words),
     }
 }
 
@@ -130,7 +110,8 @@ impl<'a> Literals<'a> {
         ensures value { (next_shown result, left self.new.rest) ≡ next_literal (end self.old.rest) (left self.old.rest) }
         ensures same { self.new.rest.line.now ≡ self.old.rest.line.now }
     {
-        let Some((literal, rest)) = named_literal(self.rest)? else {
+        let mut rest = self.rest;
+        let Some(literal) = named_literal(&mut rest)? else {
             return Ok(None);
         };
         self.rest = rest;

@@ -3,7 +3,6 @@ ghost use Rattle.std.specs.Prelude.{◌≡◌};
 ghost use Rattle.words.specs.Left.{left, end};
 ghost use Rattle.events.specs.Reasons.{ended, decided, theory, reason_of};
 
-use crate::keywords::{keyword, strip_last};
 use crate::literals::solver_literal;
 use crate::shapes::{Keyword, Mode, Reason};
 use numbers::number_i32;
@@ -11,36 +10,36 @@ use refusal::Refusal;
 use words::{Words, same_bytes};
 
 // No word may be left.
-pub(crate) fn expect_completed(words: Words) -> Result<(), Refusal>
+pub(crate) fn expect_completed(mut words: Words) -> Result<(), Refusal>
     ensures { result ≡ ended tt (left words.entry) }
 {
-    let Some((word, _)) = words.next() else {
+    let Some(word) = words.next() else {
         return Ok(());
     };
     Err(Refusal::ExpectedNewline { place: word.place })
 }
 
-fn decision(words: Words) -> Result<Reason, Refusal>
+fn decision(mut words: Words) -> Result<Reason, Refusal>
     ensures { result ≡ decided (end words.entry) (left words.entry) }
 {
-    let Some((word, rest)) = words.next() else {
+    let Some(word) = words.next() else {
         return Err(Refusal::UnexpectedNewline { place: words.end() });
     };
     if !same_bytes(word.letters, b"axiom") {
         return Err(Refusal::DecisionNotAxiom { place: word.place });
     }
-    expect_completed(rest)?;
+    expect_completed(words)?;
     Ok(Reason::Decision)
 }
 
-fn theory(words: Words) -> Result<Reason, Refusal>
+fn theory(mut words: Words) -> Result<Reason, Refusal>
     ensures { result ≡ theory (end words.entry) (left words.entry) }
 {
-    let Some((word, _)) = words.next() else {
+    let Some(word) = words.next() else {
         return Err(Refusal::UnexpectedNewline { place: words.end() });
     };
     let place = word.place;
-    let Some(digits) = strip_last(word.letters, b':') else {
+    let Some(digits) = word.letters.strip_suffix(b":") else {
         return Err(Refusal::MissingColonJustification { place });
     };
     let Some(number) = number_i32(digits) else {
@@ -50,28 +49,28 @@ fn theory(words: Words) -> Result<Reason, Refusal>
 }
 
 // The reason that the words after an assign's literal tell.
-pub fn read_reason(words: Words, mode: Mode) -> Result<Reason, Refusal>
+pub fn read_reason(mut words: Words, mode: Mode) -> Result<Reason, Refusal>
     ensures { result ≡ reason_of mode (end words.entry) (left words.entry) }
 {
-    let Some((word, rest)) = words.next() else {
+    let Some(word) = words.next() else {
         return Err(Refusal::UnexpectedNewline { place: words.end() });
     };
-    match keyword(word.letters) {
-        Keyword::Decision => decision(rest),
+    match Keyword::from(word.letters) {
+        Keyword::Decision => decision(words),
         Keyword::Axiom => {
-            expect_completed(rest)?;
+            expect_completed(words)?;
             Ok(Reason::Axiom)
         }
         Keyword::Bin => {
-            let (other, after) = solver_literal(rest, mode)?;
-            expect_completed(after)?;
+            let other = solver_literal(&mut words, mode)?;
+            expect_completed(words)?;
             Ok(Reason::Bin(other))
         }
         Keyword::Clause => {
-            let (first, _) = solver_literal(rest, mode)?;
+            let first = solver_literal(&mut words, mode)?;
             Ok(Reason::Clause(first))
         }
-        Keyword::Justification => theory(rest),
+        Keyword::Justification => theory(words),
         Keyword::Unknown => Err(Refusal::UnknownJustification { place: word.place }),
     }
 }

@@ -1,5 +1,5 @@
 // What a line of a trace says, as parts of the line.
-use words::Words;
+use words::{Word, Words};
 
 // How solver literals are written: `-5` in bare mode, `(not p5)` in prefixed mode.
 #[derive(Clone, Copy, Debug, PartialEq, Eq)]
@@ -20,7 +20,7 @@ pub enum LineKind {
 }
 
 // The first word of a named literal.
-#[derive(Clone, Copy)]
+#[derive(Clone, Copy, Debug, PartialEq, Eq)]
 pub enum LiteralWord {
     Constant,
     Not,
@@ -28,7 +28,7 @@ pub enum LiteralWord {
 }
 
 // The first word after an assign's literal.
-#[derive(Clone, Copy)]
+#[derive(Clone, Copy, Debug, PartialEq, Eq)]
 pub enum Keyword {
     Decision,
     Axiom,
@@ -55,21 +55,20 @@ pub enum Reason {
     Theory(i32),
 }
 
-// An id with its value, and the place of the word that has the id.
-#[derive(Clone, Copy)]
+// An id with its place, and its value.
+#[derive(Clone, Copy, Debug, PartialEq, Eq)]
 pub struct NamedLiteral<'a> {
-    pub id: &'a [u8],
+    pub id: Word<'a>,
     pub value: bool,
-    pub place: usize,
 }
 
 // The named literals that are left of a line.
-#[derive(Clone, Copy)]
+#[derive(Clone, Copy, Debug, PartialEq, Eq)]
 pub struct Literals<'a> {
     pub(crate) rest: Words<'a>,
 }
 
-#[derive(Clone, Copy)]
+#[derive(Clone, Copy, Debug, PartialEq, Eq)]
 pub enum Event<'a> {
     Other,
     Assign {
