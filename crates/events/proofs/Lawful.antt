@@ -5,13 +5,16 @@ use Rattle.std.proofs.lemmas.List.{length-take-le, take-take}
 use Rattle.refusal.specs.declared.refusals.Refusal.{Refusal}
 use Rattle.words.specs.Words.{words, Placed, at, Stands}
 use Rattle.words.proofs.Around.{around}
-use Rattle.words.proofs.Places.{words_stand}
+use Rattle.words.proofs.Places.{words_stand, left_stand}
 use Rattle.events.specs.declared.shapes.LineKind.{LineKind}
 use Rattle.events.specs.declared.shapes.LineKind.TheVariants as kind
 use Rattle.events.specs.declared.shapes.LiteralWord.{LiteralWord}
 use Rattle.events.specs.declared.shapes.LiteralWord.TheVariants as literal
 use Rattle.events.specs.declared.shapes.Mode.{Mode}
 use Rattle.events.specs.Keywords.{kind_of, literal_word}
+use Rattle.words.specs.declared.rest.Words.{Words}
+use Rattle.words.specs.Left.{left, end}
+use Rattle.events.specs.Worked.{Worked}
 use Rattle.events.specs.Laws.{Blamed, Steady, Names, NamedPart, NumberedAlike}
 use Rattle.events.specs.Lines.{Said, other, assign, decide_and_or, conflict, push, pop, begin_check, integer, assigned, by_kind, said, event_of, passed, finished, completed, line_kind, number_of_case, number_of_kind}
 use Rattle.events.specs.Literals.{Read, and_then, Named, valued, closed, begun_with, some_named, named, literals, next_of, next_literal}
@@ -138,6 +141,17 @@ module _ (line : List ℕ) where
 
   pub event_named : Names line (event_of line)
   event_named = said_named (length line) (words 0 line) (words_stand 0 line)
+
+-- an answer names parts of the line, if it is what the line says
+pub named_by : (line : List ℕ) (r : Result Said Refusal) → r ≡ event_of line → Names line r
+named_by line r e = subst (Names line) (sym e) (event_named line)
+
+-- so does the literal that a cursor gives
+pub given_by : (w : Words) (rest : List Placed) (r : Result (Option Named) Refusal) → (r, rest) ≡ next_literal (end w) (left w) → NamedPart w.line.now r
+given_by w rest r e = next_named w.line.now (end w) (left w) rest r (left_stand w.place w.line.now) e
+
+pub worked : Worked
+worked = (refl, (refl, (refl, (refl, (refl, tt)))))
 
 -- the kind of a line is its event's case
 passed_kind : {A : Type 0} (k j : LineKind) (a : Result A Refusal) → passed k a ≡ Ok j → k ≡ j

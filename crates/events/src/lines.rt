@@ -89,6 +89,7 @@ fn event<'a>(line: &'a [u8]) -> Result<Event<'a>, Refusal>
 }
 
 // What a line says, as far as it is read before a book is asked.
+#[tactic(auto, using(crate::proofs::Lawful::named_by, crate::proofs::Lawful::steady_event, crate::proofs::Reach::reached, crate::proofs::Lawful::worked))]
 pub fn read_event(line: &[u8]) -> Result<Event<'_>, Refusal>
     ensures value { shown result ≡ event_of line.now }
     ensures same { OfLine line.now result }

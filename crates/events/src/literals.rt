@@ -119,6 +119,7 @@ impl<'a> Literals<'a> {
     }
 
     // The next literal, or nothing at the line's end; at a fault the cursor stays.
+    #[tactic(auto, using(crate::proofs::Cursors::step_given, crate::proofs::Cursors::step_fewer))]
     pub fn next(&mut self) -> Result<Option<NamedLiteral<'a>>, Refusal>
         ensures value { (next_shown result, left self.new.rest) ≡ next_literal (end self.old.rest) (left self.old.rest) }
         ensures same { self.new.rest.line.now ≡ self.old.rest.line.now }
