@@ -16,83 +16,56 @@ impl Refusal {
     pub fn number(self) -> u8
         ensures { result ≡ number_of self }
     {
-        match self {
-            Refusal::UnexpectedNewline { .. } => 1,
-            Refusal::ExpectedNewline { .. } => 2,
-            Refusal::BoolLiteral { .. } => 3,
-            Refusal::TupleMissingParens { .. } => 4,
-            Refusal::InvalidBoolLiteral { .. } => 5,
-            Refusal::BoolLiteralNotP { .. } => 6,
-            Refusal::MissingColonJustification { .. } => 7,
-            Refusal::InvalidTheoryId { .. } => 8,
-            Refusal::UnknownJustification { .. } => 9,
-            Refusal::InvalidFrameInteger { .. } => 10,
-            Refusal::DecisionNotAxiom { .. } => 11,
-            Refusal::LineTooLong => 12,
-            Refusal::StackFrameNotPushed => 13,
-            Refusal::ConflictPending => 14,
-            Refusal::LeafNotActive => 15,
-            Refusal::PopTooDeep => 16,
-            Refusal::LeafStands => 17,
-            Refusal::NoFrameBelow => 18,
-            Refusal::UnknownId { .. } => 19,
-            Refusal::TermTooLarge { .. } => 20,
-            Refusal::TableFull { .. } => 21,
-            Refusal::BadTables => 22,
-            Refusal::BadNumber => 23,
-        }
+        let (number, _, _) = self.entry();
+        number
     }
 
     // The name in the list.
     pub fn name(self) -> &'static str
         ensures { result.now ≡ name_of self }
     {
-        match self {
-            Refusal::UnexpectedNewline { .. } => "UnexpectedNewline",
-            Refusal::ExpectedNewline { .. } => "ExpectedNewline",
-            Refusal::BoolLiteral { .. } => "BoolLiteral",
-            Refusal::TupleMissingParens { .. } => "TupleMissingParens",
-            Refusal::InvalidBoolLiteral { .. } => "InvalidBoolLiteral",
-            Refusal::BoolLiteralNotP { .. } => "BoolLiteralNotP",
-            Refusal::MissingColonJustification { .. } => "MissingColonJustification",
-            Refusal::InvalidTheoryId { .. } => "InvalidTheoryId",
-            Refusal::UnknownJustification { .. } => "UnknownJustification",
-            Refusal::InvalidFrameInteger { .. } => "InvalidFrameInteger",
-            Refusal::DecisionNotAxiom { .. } => "DecisionNotAxiom",
-            Refusal::LineTooLong => "LineTooLong",
-            Refusal::StackFrameNotPushed => "StackFrameNotPushed",
-            Refusal::ConflictPending => "ConflictPending",
-            Refusal::LeafNotActive => "LeafNotActive",
-            Refusal::PopTooDeep => "PopTooDeep",
-            Refusal::LeafStands => "LeafStands",
-            Refusal::NoFrameBelow => "NoFrameBelow",
-            Refusal::UnknownId { .. } => "UnknownId",
-            Refusal::TermTooLarge { .. } => "TermTooLarge",
-            Refusal::TableFull { .. } => "TableFull",
-            Refusal::BadTables => "BadTables",
-            Refusal::BadNumber => "BadNumber",
-        }
+        let (_, name, _) = self.entry();
+        name
     }
 
     // The place in the line; 0 for a refusal that blames no word.
     pub fn place(self) -> usize
         ensures { result ≡ place_of self }
     {
+        let (_, _, place) = self.entry();
+        place
+    }
+
+    // The list: the number, the name and the place.
+    fn entry(self) -> (u8, &'static str, usize)
+        ensures number { result.0 ≡ number_of self }
+        ensures name { result.1.now ≡ name_of self }
+        ensures place { result.2 ≡ place_of self }
+    {
         match self {
-            Refusal::UnexpectedNewline { place }
-            | Refusal::ExpectedNewline { place }
-            | Refusal::BoolLiteral { place }
-            | Refusal::TupleMissingParens { place }
-            | Refusal::InvalidBoolLiteral { place }
-            | Refusal::BoolLiteralNotP { place }
-            | Refusal::MissingColonJustification { place }
-            | Refusal::InvalidTheoryId { place }
-            | Refusal::UnknownJustification { place }
-            | Refusal::InvalidFrameInteger { place }
-            | Refusal::DecisionNotAxiom { place }
-            | Refusal::UnknownId { place }
-            | Refusal::TermTooLarge { place } => place,
-            _ => 0,
+            Refusal::UnexpectedNewline { place } => (1, "UnexpectedNewline", place),
+            Refusal::ExpectedNewline { place } => (2, "ExpectedNewline", place),
+            Refusal::BoolLiteral { place } => (3, "BoolLiteral", place),
+            Refusal::TupleMissingParens { place } => (4, "TupleMissingParens", place),
+            Refusal::InvalidBoolLiteral { place } => (5, "InvalidBoolLiteral", place),
+            Refusal::BoolLiteralNotP { place } => (6, "BoolLiteralNotP", place),
+            Refusal::MissingColonJustification { place } => (7, "MissingColonJustification", place),
+            Refusal::InvalidTheoryId { place } => (8, "InvalidTheoryId", place),
+            Refusal::UnknownJustification { place } => (9, "UnknownJustification", place),
+            Refusal::InvalidFrameInteger { place } => (10, "InvalidFrameInteger", place),
+            Refusal::DecisionNotAxiom { place } => (11, "DecisionNotAxiom", place),
+            Refusal::LineTooLong => (12, "LineTooLong", 0),
+            Refusal::StackFrameNotPushed => (13, "StackFrameNotPushed", 0),
+            Refusal::ConflictPending => (14, "ConflictPending", 0),
+            Refusal::LeafNotActive => (15, "LeafNotActive", 0),
+            Refusal::PopTooDeep => (16, "PopTooDeep", 0),
+            Refusal::LeafStands => (17, "LeafStands", 0),
+            Refusal::NoFrameBelow => (18, "NoFrameBelow", 0),
+            Refusal::UnknownId { place } => (19, "UnknownId", place),
+            Refusal::TermTooLarge { place } => (20, "TermTooLarge", place),
+            Refusal::TableFull { .. } => (21, "TableFull", 0),
+            Refusal::BadTables => (22, "BadTables", 0),
+            Refusal::BadNumber => (23, "BadNumber", 0),
         }
     }
 }
