@@ -1,5 +1,5 @@
 -- What is due of an input, step by step and piece by piece.
-use Rattle.std.proofs.Common.{◌≡◌, ℕ, zero, suc, ◌+◌, ◌<◌, Bool, true, false, cond, ltb, leb, List, [], ◌∷◌, ◌++◌, map, length, take, Some, None, sym, refl, ap, ◌∙◌, subst, arith}
+use Rattle.std.proofs.Common.{◌≡◌, ℕ, zero, suc, ◌+◌, ◌<◌, ◌≤◌, Bool, true, false, cond, ltb, leb, List, [], ◌∷◌, ◌++◌, map, length, take, drop, Some, None, sym, refl, ap, ◌∙◌, arith}
 use Rattle.std.specs.List.{flat_map}
 use Rattle.std.specs.Option.{option_to_list}
 use Rattle.std.proofs.lemmas.List.{append-nil, append_assoc, length-append, length-drop}
@@ -62,6 +62,17 @@ module _ (limit : ℕ) where
       ∙ ap (λ o. o ∷ map (judged limit) (split more)) (sym (handed_grown bytes xs))
   due_feed over xs more h = ap (λ l. too_long ∷ map (judged limit) (split l)) (after_line-append xs (10 ∷ more) h)
 
+  -- what is due first of a text in which a line ends, and of one in which none does
+  pub due_ends : (p : Pending) (text more : List ℕ) → line_len text < length text
+      → due limit p (text ++ more) ≡ handed (grown limit p (take (line_len text) text)) ∷ due limit (kept []) (drop (line_len text + 1) text ++ more)
+  due_ends p text more lt =
+      ap (λ t. due limit p (t ++ more)) (line_cut text lt)
+      ∙ ap (due limit p) (append_assoc (take (line_len text) text) (10 ∷ after_line text) more)
+      ∙ due_feed p (take (line_len text) text) (after_line text ++ more) (line_plain text)
+
+  pub due_goes_on : (p : Pending) (text more : List ℕ) → length text ≤ line_len text → due limit p (text ++ more) ≡ due limit (grown limit p text) more
+  due_goes_on p text more le = due_grown p text more (plain_whole text le)
+
   -- one step hands out what is due next
   pub due_next : (p : Pending) (text : List ℕ) → Hands limit p text (next_line limit p text)
   due_next p text =
@@ -69,14 +80,8 @@ module _ (limit : ℕ) where
       (record { found = Some (handed (grown limit p (take (line_len text) text))); at_hand = kept []; left = after_line text })
       (record { found = None; at_hand = grown limit p text; left = [] })
       (Hands limit p text)
-      (λ e more. let cut = line_cut text (ltb-true (line_len text) (length text) e) in
-      ap (λ t. due limit p (t ++ more)) cut
-      ∙ ap (due limit p) (append_assoc (take (line_len text) text) (10 ∷ after_line text) more)
-      ∙ due_feed p (take (line_len text) text) (after_line text ++ more) (line_plain text))
-      (λ e more. due_grown p text more (plain_whole text (ltb-false (line_len text) (length text) e)))
-
-  pub due_step : (p : Pending) (text : List ℕ) (s : Step) → s ≡ next_line limit p text → Hands limit p text s
-  due_step p text s e = subst (Hands limit p text) (sym e) (due_next p text)
+      (λ e more. due_ends p text more (ltb-true (line_len text) (length text) e))
+      (λ e more. due_goes_on p text more (ltb-false (line_len text) (length text) e))
 
   -- at the input's end
   pub due_last : (p : Pending) → due limit p [] ≡ option_to_list (last_line limit p)
