@@ -8,7 +8,6 @@ ghost use Rattle.std.specs.List.{slice_get};
 ghost use Rattle.table.specs.Held.{pushed, written, cut};
 
 use std::marker::Model;
-use std::mem;
 
 // The table has no room for another entry.
 #[derive(Clone, Copy, Debug, PartialEq, Eq)]
@@ -82,10 +81,10 @@ impl<'a, T: Copy> Table<'a, T> {
         ensures value { result ≡ slice_get self.old.held key }
         ensures after { self.new ≡ written self.old key item }
     {
-        if key >= self.count {
-            return None;
-        }
-        Some(mem::replace(&mut self.cells[key], item))
+        let entries = &mut self.cells[..self.count];
+        let old = entries.get(key).copied()?;
+        entries[key] = item;
+        Some(old)
     }
 
     // Drops the entries whose keys are `count` or more.
