@@ -70,7 +70,7 @@ impl<'c> LineReader<'c> {
     }
 
     // Looks for the end of the line at hand in what is left of a piece: what is found, and what is left then.
-    #[tactic(auto, using(lines::proofs::Splits::line_len_le, crate::proofs::Due::due_ends, crate::proofs::Due::due_goes_on, crate::proofs::Due::reads, std::proofs::lemmas::List::take_rest))]
+    #[tactic(auto, using(crate::proofs::Due::steps))]
     pub fn join<'p>(&mut self, text: &'p [u8]) -> (Option<Result<Span, TooLong>>, &'p [u8])
         ensures value { stepped result text.now self.new ≡ next_line (limit self.old) (pending self.old) text.now }
         ensures items { Hands (limit self.old) (pending self.old) text.now (stepped result text.now self.new) }
