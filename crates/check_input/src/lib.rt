@@ -2,30 +2,29 @@
 #![tactic(auto)]
 
 ghost use Rattle.std.specs.Prelude.{◌≡◌, ℕ, List, [], ◌++◌, OnOk};
-ghost use Rattle.checker.specs.Answers.{answers, limit_of, HasRead};
+ghost use Rattle.std.specs.Option.{option_copied};
+ghost use Rattle.checker.specs.Answers.{answers, limit_of, KeepsRules, HasRead};
 ghost use Rattle.checker.specs.Tallies.{tally_of};
 ghost use Rattle.check_input.specs.Modes.{mode_for};
 
 use checker::{LogChecker, RefusedLine};
 use events::{LineKind, Mode};
 use refusal::Refusal;
-use std::io;
-use std::io::Read;
-use words::same_bytes;
+use std::io::{self, Read};
 
 // A longer line is refused.
 const LONGEST_LINE: usize = 1024;
 
 const PIECE: usize = 4096;
 
-// The mode that an argument asks for, which must be `--prefixed` and alone.
-pub fn mode_for(word: &str, more: bool) -> Option<Mode>
-    ensures { result ≡ mode_for word.now more }
+// The mode that the arguments ask for: bare without one, and prefixed by `--prefixed` alone.
+pub fn mode_for(first: Option<&str>, second: Option<&str>) -> Option<Mode>
+    ensures { result ≡ mode_for (option_copied first.entry) (option_copied second.entry) }
 {
-    if same_bytes(word.as_bytes(), b"--prefixed") && !more {
-        Some(Mode::Prefixed)
-    } else {
-        None
+    match (first, second) {
+        (None, _) => Some(Mode::Bare),
+        (Some("--prefixed"), None) => Some(Mode::Prefixed),
+        _ => None,
     }
 }
 
@@ -39,7 +38,7 @@ pub fn check_input<R: Read>(rt: &HostRuntime, input: &mut R, mode: Mode) -> io::
         if count == 0 {
             break;
         }
-        check_piece(rt, &mut checker, &piece[0..count])?;
+        check_piece(rt, &mut checker, &piece[..count])?;
     }
     check_end(rt, &mut checker)?;
     rt.println(checker.tally())
@@ -47,34 +46,30 @@ pub fn check_input<R: Read>(rt: &HostRuntime, input: &mut R, mode: Mode) -> io::
 
 // All lines that end in the piece.
 fn check_piece(rt: &HostRuntime, checker: &mut LogChecker<'_>, piece: &[u8]) -> io::Result<()>
-    ensures mode { checker.new.mode ≡ checker.old.mode }
-    ensures room { limit_of checker.new ≡ limit_of checker.old }
+    ensures rules { KeepsRules checker.old checker.new }
     ensures reads { OnOk result ((whole : List ℕ) → HasRead checker.old whole [] → HasRead checker.new (whole ++ piece.now) []) }
 {
-    let mut at = 0;
-    'lines: loop {
-        let (given, next) = checker.next(piece, at);
-        let Some(answer) = given else {
-            return Ok(());
-        };
-        at = next;
+    let mut text = piece;
+    while let (Some(answer), left) = checker.next(text) {
+        text = left;
         print_refused(rt, checker.tally().lines, answer)?;
     }
+    Ok(())
 }
 
 // The last line, where the input does not end in 0x0A.
 fn check_end(rt: &HostRuntime, checker: &mut LogChecker<'_>) -> io::Result<()>
     ensures { (whole : List ℕ) → HasRead checker.old whole [] → checker.new.tally ≡ tally_of (answers checker.old.mode (limit_of checker.old) whole) }
 {
-    match checker.finish() {
-        Some(answer) => print_refused(rt, checker.tally().lines, answer),
-        None => Ok(()),
+    if let Some(answer) = checker.finish() {
+        print_refused(rt, checker.tally().lines, answer)?;
     }
+    Ok(())
 }
 
 fn print_refused(rt: &HostRuntime, line: u64, answer: Result<LineKind, Refusal>) -> io::Result<()> {
-    match answer {
-        Ok(_) => Ok(()),
-        Err(refusal) => rt.println(RefusedLine { line, refusal }),
+    if let Err(refusal) = answer {
+        rt.println(RefusedLine { line, refusal })?;
     }
+    Ok(())
 }

@@ -5,10 +5,12 @@
 --   owed c text              the answers that are still to come from a text, from the line at hand on
 --   next_answer c text       a step over a text: its answer, if a line ends there, the line at hand after it and the text left
 --   last_answer c            the answer to the line at hand at the input's end, if there is one
---   checked r piece c        the step that the program made
---   GoesOn                   a step with an answer takes at least a byte off the piece
+--   checked r c              the step that the program made
+--   GoesOn                   a step with an answer takes at least a byte off the text, and one without leaves nothing
+--   KeepsRules               the mode and the limit are what they were
 --   HasRead c whole left     of the input so far, of which left is not looked at yet, the answers given are counted
-use Rattle.std.specs.Prelude.{◌≡◌, ℕ, ◌<◌, ◌≤◌, List, ◌++◌, map, drop, Some, None, Err, Option}
+use Rattle.std.specs.Prelude.{◌≡◌, ℕ, ◌<◌, List, [], ◌++◌, map, length, Some, None, Err, Option}
+use Rattle.std.specs.Borrow.{Bor}
 use Rattle.std.specs.Option.{option_map}
 use Rattle.events.specs.declared.shapes.Mode.{Mode}
 use Rattle.events.specs.Lines.{line_kind}
@@ -37,8 +39,8 @@ pub record Checked : Type 0 where
   pub at_hand : Pending
   pub left : List ℕ
 
-abbrev pub checked : Option Answer × ℕ → List ℕ → LogChecker → Checked
-checked r piece c = record { given = r.0; at_hand = pending c.reader; left = drop r.1 piece }
+abbrev pub checked : Option Answer × Bor (List ℕ) → LogChecker → Checked
+checked r c = record { given = r.0; at_hand = pending c.reader; left = r.1.now }
 
 abbrev pub next_answer : LogChecker → List ℕ → Checked
 next_answer c text =
@@ -48,10 +50,13 @@ next_answer c text =
 abbrev pub last_answer : LogChecker → Option Answer
 last_answer c = option_map (answer_to c.mode) (last_line (limit_of c) (pending c.reader))
 
--- a step with an answer goes on in the piece
-abbrev pub GoesOn : Option Answer → ℕ → ℕ → ℕ → Type 0
-GoesOn None at next end = next ≡ end
-GoesOn (Some a) at next end = (at < next) × (next ≤ end)
+abbrev pub GoesOn : Option Answer → List ℕ → List ℕ → Type 0
+GoesOn None left text = left ≡ []
+GoesOn (Some a) left text = length left < length text
+
+pub record KeepsRules (old new : LogChecker) : Type 0 where
+  pub mode : new.mode ≡ old.mode
+  pub limit : limit_of new ≡ limit_of old
 
 pub record HasRead (c : LogChecker) (whole left : List ℕ) : Type 0 where
   pub given : List Answer

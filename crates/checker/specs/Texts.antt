@@ -10,13 +10,7 @@ abbrev pub refused_text : RefusedLine → List ℕ
 refused_text r =
     codes "line " ++ (decimal r.line ++ (codes " refused " ++ (decimal (number_of r.refusal) ++ (codes " " ++ (name_of r.refusal ++ (codes " place " ++ decimal (place_of r.refusal)))))))
 
-abbrev pub first_text : Tally → List ℕ
-first_text t =
-    codes "lines " ++ (decimal t.lines ++ (codes " assign " ++ (decimal t.assign ++ (codes " decide-and-or " ++ (decimal t.decide_and_or ++ (codes " conflict " ++ decimal t.conflict))))))
-
-abbrev pub last_text : Tally → List ℕ
-last_text t =
-    codes "push " ++ (decimal t.push ++ (codes " pop " ++ (decimal t.pop ++ (codes " begin-check " ++ (decimal t.begin_check ++ (codes " other " ++ (decimal t.other ++ (codes " refused " ++ decimal t.refused))))))))
-
 abbrev pub tally_text : Tally → List ℕ
-tally_text t = first_text t ++ (codes " " ++ last_text t)
+tally_text t =
+    codes "lines " ++ (decimal t.lines ++ (codes " assign " ++ (decimal t.assign ++ (codes " decide-and-or " ++ (decimal t.decide_and_or ++ (codes " conflict " ++ (decimal t.conflict
+    ++ (codes " push " ++ (decimal t.push ++ (codes " pop " ++ (decimal t.pop ++ (codes " begin-check " ++ (decimal t.begin_check ++ (codes " other " ++ (decimal t.other ++ (codes " refused " ++ decimal t.refused))))))))))))))))

@@ -1,22 +1,93 @@
-// A log in pieces, line by line.
-ghost use Rattle.std.specs.Prelude.{◌≡◌};
+// Each line of a log in pieces is answered as it ends.
+ghost use Rattle.std.specs.Prelude.{◌≡◌, ℕ, List, [], length, Some};
+ghost use Rattle.std.specs.Option.{option_map};
+ghost use Rattle.pieces.specs.Reader.{pending, seen};
+ghost use Rattle.pieces.specs.Reading.{kept};
+ghost use Rattle.checker.specs.Answers.{answer_to, answers, limit_of, checked, next_answer, last_answer, GoesOn, KeepsRules, HasRead};
+ghost use Rattle.checker.specs.Tallies.{tally_of, noted_after};
 
 use crate::tally::Tally;
-use events::Mode;
-use pieces::LineReader;
+use events::{LineKind, Mode, check_line};
+use pieces::{LineReader, Span, TooLong};
+use refusal::Refusal;
 
 #[derive(Drop)]
 pub struct LogChecker<'c> {
-    pub(crate) reader: LineReader<'c>,
-    pub(crate) mode: Mode,
-    pub(crate) tally: Tally,
+    reader: LineReader<'c>,
+    mode: Mode,
+    tally: Tally,
 }
 
-impl LogChecker<'_> {
+impl<'c> LogChecker<'c> {
+    // A line may have as many bytes as the carry memory.
+    pub fn new(carry: &'c mut [u8], mode: Mode) -> Self
+        ensures room { limit_of result ≡ length carry.old }
+        ensures mode { result.mode ≡ mode }
+        ensures tally { result.tally ≡ tally_of [] }
+        ensures empty { pending result.reader ≡ kept [] }
+        ensures reads { HasRead result [] [] }
+    {
+        LogChecker {
+            reader: LineReader::new(carry),
+            mode,
+            tally: Tally::new(),
+        }
+    }
+
     // How many lines of each kind there were so far.
     pub fn tally(&self) -> Tally
         ensures { result ≡ self.now.tally }
     {
         self.tally
+    }
+
+    // The answer to the next line that ends in what is left of a piece, and what is left then; nothing where no line ends there.
+    #[tactic(auto, using(crate::proofs::Owed::reads_next))]
+    pub fn next<'p>(&mut self, text: &'p [u8]) -> (Option<Result<LineKind, Refusal>>, &'p [u8])
+        ensures value { checked result self.new ≡ next_answer self.old text.now }
+        ensures after { self.new.tally ≡ noted_after self.old.tally result.0 }
+        ensures rules { KeepsRules self.old self.new }
+        ensures len { GoesOn result.0 result.1.now text.now }
+        ensures reads { (whole : List ℕ) → HasRead self.old whole text.now → HasRead self.new whole result.1.now }
+    {
+        let (found, left) = self.reader.join(text);
+        (self.noted(text, found), left)
+    }
+
+    // The answer to the last line, if the input ended within one.
+    #[tactic(auto, using(crate::proofs::Owed::reads_all))]
+    pub fn finish(&mut self) -> Option<Result<LineKind, Refusal>>
+        ensures value { result ≡ last_answer self.old }
+        ensures after { self.new.tally ≡ noted_after self.old.tally result }
+        ensures rules { KeepsRules self.old self.new }
+        ensures empty { pending self.new.reader ≡ kept [] }
+        ensures reads { (whole : List ℕ) → HasRead self.old whole [] → self.new.tally ≡ tally_of (answers self.old.mode (limit_of self.old) whole) }
+    {
+        let found = self.reader.finish();
+        self.noted(&[], found)
+    }
+
+    // The answer to what the reader found, which is counted.
+    fn noted(
+        &mut self,
+        text: &[u8],
+        found: Option<Result<Span, TooLong>>,
+    ) -> Option<Result<LineKind, Refusal>>
+        ensures value { result ≡ option_map (answer_to self.old.mode) (seen found text.now self.old.reader) }
+        ensures after { self.new.tally ≡ noted_after self.old.tally result }
+        ensures mode { self.new.mode ≡ self.old.mode }
+        ensures reader { self.new.reader ≡ self.old.reader }
+    {
+        let answer = self.answer(text, found?);
+        self.tally.note(answer);
+        Some(answer)
+    }
+
+    // The answer to a line.
+    fn answer(&self, text: &[u8], line: Result<Span, TooLong>) -> Result<LineKind, Refusal>
+        ensures { Some result ≡ option_map (answer_to self.now.mode) (seen (Some line) text.now self.now.reader) }
+    {
+        let span = line.map_err(|_| Refusal::LineTooLong)?;
+        check_line(self.reader.line(text, span), self.mode)
     }
 }

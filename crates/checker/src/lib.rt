@@ -2,11 +2,8 @@
 #![tactic(auto)]
 
 mod checker;
-mod counts;
 mod report;
-mod steps;
 mod tally;
-mod texts;
 
 pub use checker::LogChecker;
 pub use report::RefusedLine;

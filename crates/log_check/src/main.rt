@@ -2,31 +2,17 @@
 #![tactic(auto)]
 
 use check_input::{check_input, mode_for};
-use events::Mode;
+use std::env;
 use std::process::ExitCode;
-use std::{env, io};
 
 fn main(rt: HostRuntime) -> anyhow::Result<ExitCode> {
-    let Some(mode) = mode_from_args(&rt)? else {
+    let mut args = env::args(&rt)?.skip(1);
+    let first = args.next();
+    let second = args.next();
+    let Some(mode) = mode_for(first.as_deref(), second.as_deref()) else {
         eprintln!(rt; "usage: log-check [--prefixed] < LOG")?;
         return Ok(ExitCode::FAILURE);
     };
-    run(&rt, mode)?;
+    check_input(&rt, &mut rt.stdin(), mode)?;
     Ok(ExitCode::SUCCESS)
-}
-
-fn run(rt: &HostRuntime, mode: Mode) -> anyhow::Result<()> {
-    check_input(rt, &mut rt.stdin(), mode)?;
-    Ok(())
-}
-
-// Bare mode without an argument.
-fn mode_from_args(rt: &HostRuntime) -> io::Result<Option<Mode>> {
-    let mut args = env::args(rt)?;
-    let _program = args.next();
-    let Some(first) = args.next() else {
-        return Ok(Some(Mode::Bare));
-    };
-    let more = args.next().is_some();
-    Ok(mode_for(first.as_str(), more))
 }

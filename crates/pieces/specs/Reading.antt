@@ -1,5 +1,7 @@
 -- Lines of an input that comes in pieces, under a limit on a line's bytes.
 --   Pending       the line at hand as far as it came: `kept` has its bytes, and `over` says that they are more than the limit
+--   Carried       the value of a reader: what stands in the carry memory, and the line at hand
+--   HasRoom       what is kept of the line at hand is no more than the limit
 --   Outcome       a line that ended: `line` has its bytes, and `too_long` says that they are more than the limit
 --   judged        a whole line by the limit
 --   resumed       the lines of a text whose first line began earlier with some bytes
@@ -7,21 +9,28 @@
 --   grown         the line at hand with more bytes
 --   handed        the line at hand, at its end
 --   next_line     one step over a text: the line that ends in it, if one does, the line at hand after it, and the text that is left
---   Ends          where the line that goes on at a place of a piece ends, or that it does not end in the piece
 --   Hands         a step hands out what is due next, whatever input follows
 --   last_line     the line at hand at the input's end, if there is one
 --   over_piece    the steps over one piece: the lines that end in it, and the line at hand after it
 --   over_pieces   the lines of an input in pieces, to its end
 --   and_on        a step, and then the rest of the steps
 --   Reads         the lines of an input in pieces are those of the whole
-use Rattle.std.specs.Prelude.{◌≡◌, ℕ, zero, suc, ◌+◌, ◌<◌, ◌≤◌, true, false, cond, List, [], ◌∷◌, ◌++◌, map, length, take, drop, Some, None, Option, nat_le, nat_lt}
-use Rattle.std.specs.List.{flat_map, between}
+use Rattle.std.specs.Prelude.{◌≡◌, ℕ, zero, suc, ◌+◌, ◌≤◌, cond, List, [], ◌∷◌, ◌++◌, map, length, take, Some, None, Option, nat_le, nat_lt}
+use Rattle.std.specs.List.{flat_map}
 use Rattle.std.specs.Option.{option_to_list}
 use Rattle.lines.specs.Lines.{Plain, split, line_len, after_line}
 
 pub data Pending : Type 0 where
   kept : List ℕ → Pending
   over : Pending
+
+abbrev pub HasRoom : ℕ → Pending → Type 0
+HasRoom limit (kept bytes) = length bytes ≤ limit
+HasRoom limit over = Unit {0}
+
+pub record Carried : Type 0 where
+  pub carry : List ℕ
+  pub at_hand : Pending
 
 pub data Outcome : Type 0 where
   line : List ℕ → Outcome
@@ -56,14 +65,6 @@ next_line limit p text =
     cond (nat_lt (line_len text) (length text))
     (record { found = Some (handed (grown limit p (take (line_len text) text))); at_hand = kept []; left = after_line text })
     (record { found = None; at_hand = grown limit p text; left = [] })
-
-abbrev pub Ends : ℕ → List ℕ → Option ℕ → Type 0
-Ends at piece (Some end) =
-    (at ≤ end) × (end < length piece)
-    × (nat_lt (line_len (drop at piece)) (length (drop at piece)) ≡ true)
-    × (take (line_len (drop at piece)) (drop at piece) ≡ between at end piece)
-    × (after_line (drop at piece) ≡ drop (end + 1) piece)
-Ends at piece None = (nat_lt (line_len (drop at piece)) (length (drop at piece)) ≡ false) × (drop (length piece) piece ≡ [])
 
 abbrev pub Hands : ℕ → Pending → List ℕ → Step → Type 0
 Hands limit p text s = (more : List ℕ) → due limit p (text ++ more) ≡ option_to_list s.found ++ due limit s.at_hand (s.left ++ more)

@@ -1,57 +1,65 @@
 // Lines over pieces with a carry memory of eight bytes.
 use super::*;
 
-fn is_line<'x>(found: Found, reader: &'x LineReader, piece: &'x [u8], text: &'x [u8]) -> bool {
-    match found {
-        Found::Line(span) => reader.line(piece, span) == text,
-        _ => false,
+// What is found, by the bytes of the line.
+fn bytes<'x>(
+    found: Option<Result<Span, TooLong>>,
+    reader: &'x LineReader,
+    text: &'x [u8],
+) -> Option<Result<&'x [u8], TooLong>> {
+    match found? {
+        Ok(span) => Some(Ok(reader.line(text, span))),
+        Err(e) => Some(Err(e)),
     }
-}
-
-fn is_too_long(found: Found) -> bool {
-    matches!(found, Found::TooLong)
-}
-
-fn is_more(found: Found) -> bool {
-    matches!(found, Found::More)
 }
 
 #[test]
 fn within_a_piece(rt: HostRuntime) {
-    let piece = b"12345678\n123456789\n\nab";
+    let text = b"12345678\n123456789\n\nab".as_slice();
     let mut carry = [0; 8];
     let mut reader = LineReader::new(&mut carry);
-    let (found, at) = reader.join(piece, 0);
-    assert!(rt;
-        is_line(found, &reader, piece, b"12345678"),
+    let (found, left) = reader.join(text);
+    assert_eq!(rt;
+        bytes(found, &reader, text),
+        Some(Ok(b"12345678".as_slice())),
         "as long as the limit"
     );
-    let (found, at) = reader.join(piece, at);
-    assert!(rt; is_too_long(found), "one byte more");
-    let (found, at) = reader.join(piece, at);
-    assert!(rt; is_line(found, &reader, piece, b""), "an empty line");
-    let (found, at) = reader.join(piece, at);
-    assert!(rt; is_more(found) && at == piece.len());
+    let (found, left) = reader.join(left);
+    assert_eq!(rt; found, Some(Err(TooLong)), "one byte more");
+    let text = left;
+    let (found, left) = reader.join(text);
+    assert_eq!(rt;
+        bytes(found, &reader, text),
+        Some(Ok(b"".as_slice())),
+        "an empty line"
+    );
+    assert_eq!(rt; reader.join(left), (None, b"".as_slice()));
     let found = reader.finish();
-    assert!(rt;
-        is_line(found, &reader, b"", b"ab"),
+    assert_eq!(rt;
+        bytes(found, &reader, b""),
+        Some(Ok(b"ab".as_slice())),
         "no line end at the input's end"
     );
-    assert!(rt; is_more(reader.finish()));
+    assert_eq!(rt; reader.finish(), None);
 }
 
 #[test]
 fn over_three_pieces(rt: HostRuntime) {
     let mut carry = [0; 8];
     let mut reader = LineReader::new(&mut carry);
-    assert!(rt; is_more(reader.join(b"ab", 0).0));
-    assert!(rt; is_more(reader.join(b"cdef", 0).0));
-    let (found, at) = reader.join(b"gh\ni", 0);
-    assert!(rt; is_line(found, &reader, b"gh\ni", b"abcdefgh"));
-    assert!(rt; is_more(reader.join(b"gh\ni", at).0));
-    let (found, _) = reader.join(b"\n", 0);
-    assert!(rt;
-        is_line(found, &reader, b"\n", b"i"),
+    assert_eq!(rt; reader.join(b"ab").0, None);
+    assert_eq!(rt; reader.join(b"cdef").0, None);
+    let text = b"gh\ni".as_slice();
+    let (found, left) = reader.join(text);
+    assert_eq!(rt;
+        bytes(found, &reader, text),
+        Some(Ok(b"abcdefgh".as_slice()))
+    );
+    assert_eq!(rt; reader.join(left).0, None);
+    let (found, _) = reader.join(b"\n");
+    assert_eq!(rt;
+        bytes(found, &reader, b"\n"),
+        Some(Ok(b"i".as_slice())),
         "a piece that begins with the line end"
     );
 }
@@ -60,20 +68,20 @@ fn over_three_pieces(rt: HostRuntime) {
 fn too_long_over_three_pieces(rt: HostRuntime) {
     let mut carry = [0; 8];
     let mut reader = LineReader::new(&mut carry);
-    assert!(rt; is_more(reader.join(b"123456", 0).0));
-    assert!(rt; is_more(reader.join(b"789", 0).0));
-    let (found, at) = reader.join(b"0\nok\n", 0);
-    assert!(rt; is_too_long(found));
-    let (found, at) = reader.join(b"0\nok\n", at);
-    assert!(rt; is_line(found, &reader, b"0\nok\n", b"ok"));
-    assert!(rt; is_more(reader.join(b"0\nok\n", at).0));
-    assert!(rt; is_more(reader.finish()));
+    assert_eq!(rt; reader.join(b"123456").0, None);
+    assert_eq!(rt; reader.join(b"789").0, None);
+    let (found, text) = reader.join(b"0\nok\n");
+    assert_eq!(rt; found, Some(Err(TooLong)));
+    let (found, left) = reader.join(text);
+    assert_eq!(rt; bytes(found, &reader, text), Some(Ok(b"ok".as_slice())));
+    assert_eq!(rt; reader.join(left).0, None);
+    assert_eq!(rt; reader.finish(), None);
 }
 
 #[test]
 fn empty_input(rt: HostRuntime) {
     let mut carry = [0; 8];
     let mut reader = LineReader::new(&mut carry);
-    assert!(rt; is_more(reader.join(b"", 0).0));
-    assert!(rt; is_more(reader.finish()));
+    assert_eq!(rt; reader.join(b"").0, None);
+    assert_eq!(rt; reader.finish(), None);
 }

@@ -3,123 +3,95 @@
 // An entry goes by its key, its place from 0. Contracts speak of the entries and the room alone, never of the cells.
 #![tactic(auto)]
 
-ghost use Rattle.std.specs.Prelude.{◌≡◌, List, [], length, take, slice_set};
+ghost use Rattle.std.specs.Prelude.{◌≡◌, ◌≤◌, [], length};
 ghost use Rattle.std.specs.List.{slice_get};
-ghost use Rattle.table.specs.Held.{held, room, pushed, added};
+ghost use Rattle.table.specs.Held.{pushed, written, cut};
+
+use std::marker::Model;
 
 // The table has no room for another entry.
-#[derive(Clone, Copy, Debug, PartialEq)]
+#[derive(Clone, Copy, Debug, PartialEq, Eq)]
 pub struct Full;
 
-// The entries are the first `count` cells, or all of them where `count` is past the end.
+// The entries are the first `count` cells.
 #[derive(Drop)]
 pub struct Table<'a, T> {
     cells: &'a mut [T],
     count: usize,
 }
 
+impl<'a, T> Model for Table<'a, T> {
+    ghost use Rattle.std.specs.Prelude.{◌≤◌, length, take};
+    ghost use Rattle.table.specs.Held.{Held};
+
+    ghost Value = { Held T };
+
+    ghost view = { λ t. record { held = take t.count t.cells.now; room = length t.cells.now } };
+
+    ghost invariant = { λ t. t.count ≤ length t.cells.now };
+}
+
 impl<'a, T: Copy> Table<'a, T> {
     pub fn new(cells: &'a mut [T]) -> Self
-        ensures held { held result ≡ [] }
-        ensures room { room result ≡ length cells.old }
+        ensures { result ≡ record { held = []; room = length cells.old } }
     {
         Table { cells, count: 0 }
     }
 
     pub fn room(&self) -> usize
-        ensures { result ≡ room self.now }
+        ensures value { result ≡ self.now.room }
+        ensures fits { length self.now.held ≤ self.now.room }
     {
         self.cells.len()
     }
 
     pub fn count(&self) -> usize
-        ensures { result ≡ length (held self.now) }
+        ensures { result ≡ length self.now.held }
     {
         self.entries().len()
     }
 
     pub fn entries(&self) -> &[T]
-        ensures { result.now ≡ held self.now }
+        ensures { result.now ≡ self.now.held }
     {
-        front(self.cells, self.count)
+        &self.cells[..self.count]
     }
 
     pub fn get(&self, key: usize) -> Option<T>
-        ensures { result ≡ slice_get (held self.now) key }
+        ensures { result ≡ slice_get self.now.held key }
     {
-        item_at(self.entries(), key)
+        self.entries().get(key).copied()
     }
 
     // Adds an entry, and answers its key.
     pub fn push(&mut self, item: T) -> Result<usize, Full>
-        ensures after { (result, held self.new) ≡ pushed (held self.old) (room self.old) item }
-        ensures room { room self.new ≡ room self.old }
+        ensures { (result, self.new) ≡ pushed self.old item }
     {
         let key = self.count;
-        self.count = write_next(self.cells, key, item)?;
+        if key == self.cells.len() {
+            return Err(Full);
+        }
+        self.cells[key] = item;
+        self.count = key + 1;
         Ok(key)
     }
 
     // Writes over an entry that is there, and answers what stood there.
     pub fn replace(&mut self, key: usize, item: T) -> Option<T>
-        ensures value { result ≡ slice_get (held self.old) key }
-        ensures held { held self.new ≡ slice_set (held self.old) key item }
-        ensures room { room self.new ≡ room self.old }
+        ensures value { result ≡ slice_get self.old.held key }
+        ensures after { self.new ≡ written self.old key item }
     {
-        let old = self.get(key);
-        let count = self.count;
-        write_over(self.cells, count, key, item);
-        old
+        let entries = &mut self.cells[..self.count];
+        let old = entries.get(key).copied()?;
+        entries[key] = item;
+        Some(old)
     }
 
     // Drops the entries whose keys are `count` or more.
     pub fn truncate(&mut self, count: usize)
-        ensures held { held self.new ≡ take count (held self.old) }
-        ensures room { room self.new ≡ room self.old }
+        ensures { self.new ≡ cut count self.old }
     {
-        self.count = Self::fewer(count, self.count);
-    }
-
-    // The lesser number of entries.
-    fn fewer(a: usize, b: usize) -> usize
-        ensures { (xs : List T) → take result xs ≡ take a (take b xs) }
-    {
-        a.min(b)
-    }
-}
-
-// The first `count` cells, or all of them where `count` is past the end.
-fn front<T>(cells: &[T], count: usize) -> &[T]
-    ensures { result.now ≡ take count cells.now }
-{
-    &cells[..count.min(cells.len())]
-}
-
-fn item_at<T: Copy>(items: &[T], place: usize) -> Option<T>
-    ensures { result ≡ slice_get items.now place }
-{
-    items.get(place).copied()
-}
-
-// Writes the cell after the first `count`, and answers the count with that cell.
-fn write_next<T: Copy>(cells: &mut [T], count: usize, item: T) -> Result<usize, Full>
-    ensures after { added result count cells.new ≡ pushed (take count cells.old) (length cells.old) item }
-    ensures room { length cells.new ≡ length cells.old }
-{
-    if count >= cells.len() {
-        return Err(Full);
-    }
-    cells[count] = item;
-    Ok(count + 1)
-}
-
-// Writes one of the first `count` cells.
-fn write_over<T: Copy>(cells: &mut [T], count: usize, place: usize, item: T)
-    ensures after { take count cells.new ≡ slice_set (take count cells.old) place item }
-    ensures room { length cells.new ≡ length cells.old }
-{
-    if place < count.min(cells.len()) {
-        cells[place] = item;
+        self.count = self.count.min(count);
     }
 }
 

@@ -1,32 +1,27 @@
 // Checks each file that is named on the command line, as `bare:FILE` or `prefixed:FILE`.
 #![tactic(auto)]
 
-use anyhow::anyhow;
+use anyhow::{Context, bail};
 use check_input::check_input;
 use events::Mode;
 use std::env;
 use std::fs::File;
 
 fn main(rt: HostRuntime) -> anyhow::Result<()> {
-    let mut args = env::args(&rt)?;
-    let _program = args.next();
-    for arg in args {
-        check_file(&rt, arg.as_str())?;
+    for arg in env::args(&rt)?.skip(1) {
+        check_file(&rt, &arg)?;
     }
     Ok(())
 }
 
 fn check_file(rt: &HostRuntime, arg: &str) -> anyhow::Result<()> {
-    let Some((mode, name)) = arg.split_once(':') else {
-        return Err(anyhow!("no mode"));
-    };
+    let (mode, name) = arg.split_once(':').context("no mode")?;
     let mode = match mode {
         "bare" => Mode::Bare,
         "prefixed" => Mode::Prefixed,
-        _ => return Err(anyhow!("unknown mode")),
+        _ => bail!("unknown mode"),
     };
     println!(rt; "{name}")?;
-    let mut file = File::open(rt, name)?;
-    check_input(rt, &mut file, mode)?;
+    check_input(rt, &mut File::open(rt, name)?, mode)?;
     Ok(())
 }
