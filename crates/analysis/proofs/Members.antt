@@ -4,7 +4,7 @@ use mathlib.Core.Bool.{and-true}
 use Rattle.std.specs.List.{range_with_len}
 use Rattle.std.proofs.lemmas.List.FromFn.{length-map-range_with_len, get_or-map-range_with_len, fill_by_all}
 use Rattle.std.proofs.lemmas.List.{length-set, get_or-set_same, get_or-set_other}
-use Rattle.std.proofs.lemmas.Bool.{true≢false, cases_eq, lt-ltb, eq-eqb, ne_eqb, eqb-true, cond-true, cond-false, le-leb, lt-leb, or_cases, and_parts, and_left, and_right}
+use Rattle.std.proofs.lemmas.Bool.{true≢false, false_from_ne_true, cases_eq, lt-ltb, eq-eqb, ne_eqb, eqb-true, cond-true, cond-false, le-leb, lt-leb, or_cases, and_parts, and_left, and_right}
 use Rattle.std.proofs.lemmas.Bool.Decides.{nat_tests}
 use Rattle.tree.specs.Ways.{Below, onward, has, passes, nodes_on}
 use Rattle.tree.proofs.Ways.{way_on}
@@ -14,10 +14,6 @@ use Rattle.analysis.proofs.Joins.{Lawful, unit_right, over, over_same, over_none
 abbrev pub leads : Option ℕ → ℕ → Bool
 leads None p = false
 leads (Some q) p = eqb q p
-
-not_true_false : (t : Bool) → (t ≡ true → ⊥) → t ≡ false
-not_true_false true no_way = absurd (no_way refl)
-not_true_false false no_way = refl
 
 module _ (up : ℕ → Option ℕ) (falling : Below up) where
   passes_on : (p j : ℕ) → passes up p j ≡ eqb j p || has p (onward up (up j))
@@ -83,7 +79,7 @@ module _ (up : ℕ → Option ℕ) (falling : Below up) where
         next : (o : Option ℕ) → up j ≡ o → ((q : ℕ) → up j ≡ Some q → sum (λ c. cond (leads (up c) p && passes up c q) x e) n ≡ cond (has p (onward up (up q))) x e)
             → sum (λ c. cond (leads (up c) p && passes up c j) x e) n ≡ cond (has p (onward up o)) x e
         next None root rest =
-            over_same e op laws _ (λ _. e) n (λ c lt. cond-false _ _ _ (not_true_false (leads (up c) p && passes up c j) (none root c)))
+            over_same e op laws _ (λ _. e) n (λ c lt. cond-false _ _ _ (false_from_ne_true (leads (up c) p && passes up c j) (none root c)))
             ∙ over_none e op laws n
         next (Some q) goes rest =
             over_same e op laws _ _ n (λ c lt. split q goes c)

@@ -57,7 +57,7 @@ fn posted<M: Join>(before: TermData<M>, value: bool, total: M) -> TermData<M>
     }
 }
 
-// Nothing at node 0.
+// Cleared, then one for each assignment outside node 0.
 #[tactic(auto, using(crate::proofs::Tallies::charge_more))]
 pub(crate) fn charge_all<M: Join>(
     assignments: &[TreeAssignment],

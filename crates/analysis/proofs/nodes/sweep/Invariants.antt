@@ -1,4 +1,3 @@
-use Rattle.std.proofs.Common.{◌≡◌, length}
 use Rattle.analysis.proofs.Joins.{lawful}
 use Rattle.analysis.proofs.Sweeps.{NodesSwept}
 use Rattle.analysis.proofs.nodes.sweep.Given as goal
