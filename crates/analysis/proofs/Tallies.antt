@@ -1,5 +1,6 @@
 -- One assignment more in the tallies.
-use Rattle.std.proofs.Common.{◌≡◌, ℕ, ◌+◌, ◌-◌, ◌^◌, ◌<◌, min, Bool, true, false, cond, not, ◌&&◌, eqb, List, [], ◌∷◌, ◌++◌, length, get_or, set, take, count_by, sym, refl, ap, ◌∙◌, ⊎_elim, arith}
+use Rattle.std.proofs.Common.{◌≡◌, ℕ, ◌+◌, ◌-◌, ◌^◌, ◌<◌, min, Bool, true, false, cond, not, ◌&&◌, eqb, List, [], ◌∷◌, ◌++◌, map, length, get_or, set, take, count_by, sym, refl, ap, ◌∙◌, ⊎_elim, arith}
+use Rattle.std.specs.List.{range_with_len}
 use Rattle.std.proofs.lemmas.List.FromFn.{length-map-range_with_len, get_or-map-range_with_len}
 use Rattle.std.proofs.lemmas.List.{same_lists, length-set, get_or-set_same, get_or-set_other, length-take-le, take_more, get_or_read_under}
 use Rattle.std.proofs.lemmas.List.Sums.{sum_by_push, count_by-le-length}
@@ -48,6 +49,11 @@ module _ {M : Type 0} (e : M) (op : M → M → M) (T : ℕ → M) where
       by true e' = λ i. record { positive = tally_yes xs a t true (counted true true e' ∙ tests true) short i; negative = tally_no xs a t false (counted false true e' ∙ tests false) i }
       by false e' = λ i. record { positive = tally_no xs a t true (counted true false e' ∙ tests false) i; negative = tally_yes xs a t false (counted false false e' ∙ tests true) short i }
 
+  -- nothing at node 0
+  no_step : (n : ℕ) (xs : List TreeAssignment) (a : TreeAssignment) → eqb a.node 0 ≡ true → all_data e op T n (xs ++ a ∷ []) ≡ all_data e op T n xs
+  no_step n xs a root =
+      λ i. map (λ t. data_no xs a t (λ v. ap (λ s. not s && (eqb a.term.literal t && is v a.term.value)) root) i) (range_with_len 0 n)
+
   one_step : (n : ℕ) (xs : List TreeAssignment) (a : TreeAssignment) → a.term.literal < n → length xs < 2 ^ 64 - 1 → eqb a.node 0 ≡ false
       → all_data e op T n (xs ++ a ∷ []) ≡ set (all_data e op T n xs) a.term.literal (posted op a.term.value (at a) (get_or (all_data e op T n xs) a.term.literal (no_data e)))
   one_step n xs a in_table short outside =
@@ -88,6 +94,9 @@ module _ {M : Type 0} (e : M) (op : M → M → M) (ts : List M) (xs : List Tree
 
   abbrev by : ℕ → M
   by k = get_or ts k e
+
+  pub charge_none : (n : ℕ) → i < length xs → next.node ≡ 0 → charged e op ts n (take (i + 1) xs) ≡ charged e op ts n (take i xs)
+  charge_none n lt root = ap (charged e op ts n) (take_more xs i d lt) ∙ no_step e op by n (take i xs) next (eq-eqb next.node 0 root)
 
   pub charge_more : (ys : List (TermData M)) (total : M) (old new : TermData M) (m : ℕ) → within (length ts) m xs ≡ true → length ys ≡ m → i < length xs → length xs < 2 ^ 64 → (next.node ≡ 0 → ⊥)
       → ys ≡ charged e op ts (length ys) (take i xs) → total ≡ get_or ts next.node total → old ≡ get_or ys next.term.literal old → new ≡ posted op next.term.value total old

@@ -22,7 +22,6 @@ pub use nodes::totals;
 pub use terms::charges;
 
 // The totals of the nodes, and by these the counts and charges of the terms.
-#[tactic(auto, using(crate::proofs::Within::charged_costs))]
 pub fn costs<M: Measure>(
     nodes: &[Cdcl],
     assignments: &[TreeAssignment],

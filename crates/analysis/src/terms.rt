@@ -58,7 +58,7 @@ fn posted<M: Join>(before: TermData<M>, value: bool, total: M) -> TermData<M>
 }
 
 // Cleared, then one for each assignment outside node 0.
-#[tactic(auto, using(crate::proofs::Tallies::charge_more))]
+#[tactic(auto, using(crate::proofs::Within::within_at, crate::proofs::Tallies::charge_none, crate::proofs::Tallies::charge_more))]
 pub(crate) fn charge_all<M: Join>(
     assignments: &[TreeAssignment],
     totals: &[M],
