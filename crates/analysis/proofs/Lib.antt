@@ -1,4 +1,5 @@
 pub mod Joins
+pub mod Depths
 pub mod Members
 pub mod Sweeps
 pub mod Tallies

@@ -4,21 +4,16 @@ use mathlib.Core.Bool.{and-true}
 use Rattle.std.specs.List.{range_with_len}
 use Rattle.std.proofs.lemmas.List.FromFn.{length-map-range_with_len, get_or-map-range_with_len, fill_by_all}
 use Rattle.std.proofs.lemmas.List.{length-set, get_or-set_same, get_or-set_other}
-use Rattle.std.proofs.lemmas.Bool.{true≢false, cases_eq, lt-ltb, eq-eqb, ne_eqb, eqb-true, cond-true, cond-false, le-leb, lt-leb, or_cases, and_parts, and_left, and_right}
+use Rattle.std.proofs.lemmas.Bool.{true≢false, false_from_ne_true, cases_eq, lt-ltb, eq-eqb, ne_eqb, eqb-true, cond-true, cond-false, le-leb, lt-leb, or_cases, and_parts, and_left, and_right}
 use Rattle.std.proofs.lemmas.Bool.Decides.{nat_tests}
 use Rattle.tree.specs.Ways.{Below, onward, has, passes, nodes_on}
 use Rattle.tree.proofs.Ways.{way_on}
-use Rattle.analysis.specs.Steps.{handed, visited}
 use Rattle.analysis.proofs.Joins.{Lawful, unit_right, over, over_same, over_none, over_both, over_swap, over_one, over_test, test_or, and_test_or, test_more, over_kept}
 
 -- the lead o is p
 abbrev pub leads : Option ℕ → ℕ → Bool
 leads None p = false
 leads (Some q) p = eqb q p
-
-not_true_false : (t : Bool) → (t ≡ true → ⊥) → t ≡ false
-not_true_false true no_way = absurd (no_way refl)
-not_true_false false no_way = refl
 
 module _ (up : ℕ → Option ℕ) (falling : Below up) where
   passes_on : (p j : ℕ) → passes up p j ≡ eqb j p || has p (onward up (up j))
@@ -84,7 +79,7 @@ module _ (up : ℕ → Option ℕ) (falling : Below up) where
         next : (o : Option ℕ) → up j ≡ o → ((q : ℕ) → up j ≡ Some q → sum (λ c. cond (leads (up c) p && passes up c q) x e) n ≡ cond (has p (onward up (up q))) x e)
             → sum (λ c. cond (leads (up c) p && passes up c j) x e) n ≡ cond (has p (onward up o)) x e
         next None root rest =
-            over_same e op laws _ (λ _. e) n (λ c lt. cond-false _ _ _ (not_true_false (leads (up c) p && passes up c j) (none root c)))
+            over_same e op laws _ (λ _. e) n (λ c lt. cond-false _ _ _ (false_from_ne_true (leads (up c) p && passes up c j) (none root c)))
             ∙ over_none e op laws n
         next (Some q) goes rest =
             over_same e op laws _ _ n (λ c lt. split q goes c)
@@ -155,58 +150,63 @@ module _ (up : ℕ → Option ℕ) (falling : Below up) where
             (λ differ. grind (arith, nat_tests))
 
     -- the entries xs once the nodes from i on are visited: theirs are totals, and below them stands what came from these so far
-    abbrev pub Swept : (ℕ → M) → ℕ → ℕ → List M → Type 0
-    Swept w n i xs = (length xs ≡ n) × ((p : ℕ) → p < i → get_or xs p e ≡ part w n i p) × ((p : ℕ) → i ≤ p → p < n → get_or xs p e ≡ through w n p)
+    pub record Swept (w : ℕ → M) (n i : ℕ) (xs : List M) : Type 0 where
+      pub long : length xs ≡ n
+      pub lower : (p : ℕ) → p < i → get_or xs p e ≡ part w n i p
+      pub upper : (p : ℕ) → i ≤ p → p < n → get_or xs p e ≡ through w n p
 
     pub swept_none : (w : ℕ → M) (n : ℕ) (xs : List M) → xs ≡ map (λ _. e) (range_with_len 0 n) → Swept w n n xs
-    swept_none w n xs clear = (
-      ap length clear ∙ length-map-range_with_len (λ _. e) 0 n,
-      λ p lt. ap (λ l. get_or l p e) clear ∙ get_or-map-range_with_len (λ _. e) 0 n p p e lt (omega arith) ∙ sym (part_none w n p),
-      λ p high low. absurd (omega arith),
-    )
+    swept_none w n xs clear = record {
+      long = ap length clear ∙ length-map-range_with_len (λ _. e) 0 n;
+      lower = λ p lt. ap (λ l. get_or l p e) clear ∙ get_or-map-range_with_len (λ _. e) 0 n p p e lt (omega arith) ∙ sym (part_none w n p);
+      upper = λ p high low. absurd (omega arith);
+    }
 
-    pub swept_visit : (w : ℕ → M) (n k : ℕ) (xs : List M) → k < n → Swept w n (suc k) xs → Swept w n k (visited e op k (w k) (up k) xs)
-    swept_visit w n k xs in_list so = hand (up k) (falling k) (part_more w n k)
-      where
-        t : M
-        t = op (get_or xs k e) (w k)
+    -- node k's entry joined with its weight
+    module _ (w : ℕ → M) (n k : ℕ) (xs : List M) (in_list : k < n) (so : Swept w n (suc k) xs) (t : M) (now : t ≡ op (get_or xs k e) (w k)) where
+      own : t ≡ through w n k
+      own = now ∙ ap (λ x. op x (w k)) (so.lower k (omega arith)) ∙ part_all w n k in_list
 
-        own : t ≡ through w n k
-        own = ap (λ x. op x (w k)) (so.1 k (omega arith)) ∙ part_all w n k in_list
+      abbrev ys : List M
+      ys = set xs k t
 
-        long : length (set xs k t) ≡ n
-        long = length-set xs k t ∙ so.0
+      long : length ys ≡ n
+      long = length-set xs k t ∙ so.long
 
-        lower : (p : ℕ) → p < k → get_or (set xs k t) p e ≡ part w n (suc k) p
-        lower p lt = get_or-set_other xs k p t e (omega arith) ∙ so.1 p (omega arith)
+      lower : (p : ℕ) → p < k → get_or ys p e ≡ part w n (suc k) p
+      lower p lt = get_or-set_other xs k p t e (omega arith) ∙ so.lower p (omega arith)
 
-        upper : (p : ℕ) → k ≤ p → p < n → get_or (set xs k t) p e ≡ through w n p
-        upper p high low =
-            ⊎_elim
-            (λ (same : p ≡ k). ap (λ i. get_or (set xs k t) i e) same ∙ get_or-set_same xs k t e (omega (arith, so.0)) ∙ own ∙ ap (through w n) (sym same))
-            (λ differ. get_or-set_other xs k p t e differ ∙ so.2 p (omega arith) low)
-            (cases_eq p k)
+      upper : (p : ℕ) → k ≤ p → p < n → get_or ys p e ≡ through w n p
+      upper p high low =
+          ⊎_elim
+          (λ (same : p ≡ k). ap (λ i. get_or ys i e) same ∙ get_or-set_same xs k t e (omega (arith, so.long)) ∙ own ∙ ap (through w n) (sym same))
+          (λ differ. get_or-set_other xs k p t e differ ∙ so.upper p (omega arith) low)
+          (cases_eq p k)
 
-        hand : (o : Option ℕ) → ((q : ℕ) → o ≡ Some q → q < k) → ((p : ℕ) → k < n → part w n k p ≡ op (part w n (suc k) p) (cond (leads o p) (through w n k) e))
-            → Swept w n k (handed e op o t (set xs k t))
-        hand None below more = (long, λ p lt. lower p lt ∙ sym (more p in_list ∙ unit_right e op laws (part w n (suc k) p)), upper)
-        hand (Some q) below more =
-            let ys : List M = set xs k t in
-            let q-lt : q < k = below q refl in
-            let x : M = op (get_or ys q e) t in (
-              length-set ys q x ∙ long,
-              λ p lt.
-                  ⊎_elim
-                  (λ (same : p ≡ q).
-                  ap (λ i. get_or (set ys q x) i e) same ∙ get_or-set_same ys q x e (omega (arith, long)) ∙ (λ i. op (lower q q-lt i) (own i))
-                  ∙ ap (op (part w n (suc k) q)) (sym (cond-true _ _ _ (eq-eqb q q refl))) ∙ sym (more q in_list) ∙ ap (part w n k) (sym same))
-                  (λ differ.
-                  get_or-set_other ys q p x e differ ∙ lower p lt
-                  ∙ sym (more p in_list ∙ ap (op (part w n (suc k) p)) (cond-false _ _ _ (ne_eqb q p (λ same. differ (sym same)))) ∙ unit_right e op laws (part w n (suc k) p)))
-                  (cases_eq p q),
-              λ p high low. get_or-set_other ys q p x e (omega arith) ∙ upper p high low,
-            )
+      more : (p : ℕ) (o : Option ℕ) → up k ≡ o → part w n k p ≡ op (part w n (suc k) p) (cond (leads o p) (through w n k) e)
+      more p o goes = part_more w n k p in_list ∙ ap (λ l. op (part w n (suc k) p) (cond (leads l p) (through w n k) e)) goes
+
+      pub swept_root : up k ≡ None → Swept w n k ys
+      swept_root root = record { long = long; lower = λ p lt. lower p lt ∙ sym (more p None root ∙ unit_right e op laws (part w n (suc k) p)); upper = upper }
+
+      -- and handed to its lead
+      pub swept_lead : (q : ℕ) (x : M) → up k ≡ Some q → x ≡ op (get_or ys q e) t → Swept w n k (set ys q x)
+      swept_lead q x goes joined =
+          let q-lt : q < k = falling k q goes in
+          record {
+            long = length-set ys q x ∙ long;
+            lower = λ p lt.
+                ⊎_elim
+                (λ (same : p ≡ q).
+                ap (λ i. get_or (set ys q x) i e) same ∙ get_or-set_same ys q x e (omega (arith, long)) ∙ joined ∙ (λ i. op (lower q q-lt i) (own i))
+                ∙ ap (op (part w n (suc k) q)) (sym (cond-true _ _ _ (eq-eqb q q refl))) ∙ sym (more q (Some q) goes) ∙ ap (part w n k) (sym same))
+                (λ differ.
+                get_or-set_other ys q p x e differ ∙ lower p lt
+                ∙ sym (more p (Some q) goes ∙ ap (op (part w n (suc k) p)) (cond-false _ _ _ (ne_eqb q p (λ same. differ (sym same)))) ∙ unit_right e op laws (part w n (suc k) p)))
+                (cases_eq p q);
+            upper = λ p high low. get_or-set_other ys q p x e (omega arith) ∙ upper p high low;
+          }
 
     pub swept_all : (w : ℕ → M) (n : ℕ) (xs : List M) → Swept w n 0 xs → xs ≡ map (λ k. fold op e (map w (filter (passes up k) (range_with_len 0 n)))) (range_with_len 0 n)
     swept_all w n xs so =
-        fill_by_all (λ k. fold op e (map w (filter (passes up k) (range_with_len 0 n)))) xs n e so.0 (λ k lt. so.2 k (omega arith) lt ∙ sym (over_kept e op laws (passes up k) w n))
+        fill_by_all (λ k. fold op e (map w (filter (passes up k) (range_with_len 0 n)))) xs n e so.long (λ k lt. so.upper k (omega arith) lt ∙ sym (over_kept e op laws (passes up k) w n))

@@ -1,21 +1,22 @@
 -- Assignments within the tables.
-use Rattle.std.proofs.Common.{◌≡◌, ℕ, zero, suc, ◌+◌, ◌<◌, Bool, true, false, cond, ◌&&◌, ltb, List, [], ◌∷◌, map, length, get_or, drop, fold, count_by, filter, refl, ap, ◌∙◌, arith}
+use Rattle.std.proofs.Common.{◌≡◌, ℕ, ◌<◌, Bool, true, false, cond, ◌&&◌, ltb, List, [], ◌∷◌, map, length, get_or, take, drop, fold, count_by, filter, Ok, Err, sym, refl, ap, ◌∙◌, arith}
 use Rattle.std.specs.List.{range_with_len}
-use Rattle.std.proofs.lemmas.List.{drop_more}
+use Rattle.std.proofs.lemmas.Grind.{common_steps}
+use Rattle.std.proofs.lemmas.List.{take_at}
+use Rattle.std.proofs.lemmas.List.FromFn.{length-map-range_with_len, get_or-map-range_with_len}
 use Rattle.std.proofs.lemmas.Bool.{and_parts, ltb-true}
+use Rattle.analysis.specs.declared.data.TermData.{TermData}
 use Rattle.analysis.specs.declared.data.TreeAssignment.{TreeAssignment}
-use Rattle.analysis.specs.Charges.{counts, tally, data_of, all_data, fits, within}
+use Rattle.items.specs.declared.cdcl.Cdcl.{Cdcl}
+use Rattle.items.specs.declared.cdcl.CdclKind.{CdclKind}
+use Rattle.refusal.specs.declared.refusals.Refusal.TheVariants.{BadTables}
+use Rattle.analysis.specs.Answers.{judged, overwritten}
+use Rattle.analysis.specs.Charges.{counts, tally, data_of, all_data, charged, fits, within}
+use Rattle.analysis.specs.Costs.{costs, costed}
+use Rattle.analysis.specs.Totals.{total, all_depths, all_totals, enough, totalled}
 
-pub within_no : (n m : ℕ) (xs : List TreeAssignment) (i : ℕ) (d : TreeAssignment) → i < length xs → fits n m (get_or xs i d) ≡ false → within n m (drop i xs) ≡ false
-within_no n m xs i d lt no-fit = ap (within n m) (drop_more xs i d lt) ∙ ap (λ t. t && within n m (drop (i + 1) xs)) no-fit
-
-pub within_yes : (n m : ℕ) (xs : List TreeAssignment) (i : ℕ) (d : TreeAssignment) → i < length xs → fits n m (get_or xs i d) ≡ true → within n m (drop i xs) ≡ within n m (drop (i + 1) xs)
-within_yes n m xs i d lt fit = ap (within n m) (drop_more xs i d lt) ∙ ap (λ t. t && within n m (drop (i + 1) xs)) fit
-
-pub within_term : (n m : ℕ) (xs : List TreeAssignment) (i : ℕ) (d : TreeAssignment) → within n m xs ≡ true → i < length xs → (get_or xs i d).term.literal < m
-within_term n m [] i d all lt = absurd (omega arith)
-within_term n m (x ∷ xs) zero d all lt = ltb-true x.term.literal m (and_parts (ltb x.node n) (ltb x.term.literal m) (and_parts (fits n m x) (within n m xs) all).0).1
-within_term n m (x ∷ xs) (suc i) d all lt = within_term n m xs i d (and_parts (fits n m x) (within n m xs) all).1 (omega arith)
+pub within_at : (n m : ℕ) (xs : List TreeAssignment) (i : ℕ) (d : TreeAssignment) → within n m xs ≡ true → i < length xs → ((get_or xs i d).node < n) × ((get_or xs i d).term.literal < m)
+within_at n m xs i d all lt = (grind (arith, common_steps), grind (arith, common_steps))
 
 -- what is charged goes by the totals of the nodes within the table alone
 module _ {M : Type 0} (n m : ℕ) (T T' : ℕ → M) (same : (k : ℕ) → k < n → T k ≡ T' k) where
@@ -39,3 +40,27 @@ module _ {M : Type 0} (n m : ℕ) (T T' : ℕ → M) (same : (k : ℕ) → k < n
 
       data_like : (t : ℕ) → data_of e op T xs t ≡ data_of e op T' xs t
       data_like t = λ i. record { positive = tally_like t true i; negative = tally_like t false i }
+
+-- by the totals of the nodes, where they stand in the first entries of a table
+pub charged_costs : {M : Type 0} (e : M) (op : M → M → M) (w : CdclKind → ℕ → M) (ns : List Cdcl) (ts table : List M) (m : ℕ) (xs : List TreeAssignment) → table ≡ overwritten (all_totals e op w ns) ts → within (length ns) m xs ≡ true
+    → charged e op (take (length ns) table) m xs ≡ costs e op w ns m xs
+charged_costs e op w ns ts table m xs written all =
+    let T = total e op w ns in
+    let n = length ns in
+    ap (λ l. charged e op (take n l) m xs) written
+    ∙ ap (λ l. charged e op l m xs) (take_at (all_totals e op w ns) (drop (length (all_totals e op w ns)) ts) n (length-map-range_with_len T 0 n))
+    ∙ same_data n m (λ k. get_or (all_totals e op w ns) k e) T (λ k lt. get_or-map-range_with_len T 0 n k k e lt (omega arith)) e op xs all
+
+-- what a call writes and answers, where the totals are found
+pub costs_done : {M : Type 0} (e : M) (op : M → M → M) (w : CdclKind → ℕ → M) (ns : List Cdcl) (xs : List TreeAssignment) (ds ds' : List ℕ) (ts ts' : List M) (ms ms' : List (TermData M)) (u : Unit {0}) → true ≡ within (length ns) (length ms) xs
+    → (Ok u, (ds', ts')) ≡ totalled e op w ns ds ts → ms' ≡ charged e op (take (length ns) ts') (length ms) xs → (Ok tt, (ds', ts', ms')) ≡ costed e op w ns xs ds ts ms
+costs_done {M} e op w ns xs ds ds' ts ts' ms ms' u all found charges = step (enough (length ns) ds ts) found
+  where
+    step : (t : Bool) → (Ok tt, (ds', ts')) ≡ judged {X = List ℕ × List M} t (overwritten (all_depths ns) ds, overwritten (all_totals e op w ns) ts) (ds, ts)
+        → (Ok tt, (ds', ts', ms')) ≡ judged {X = List ℕ × List M × List (TermData M)} (t && within (length ns) (length ms) xs) (overwritten (all_depths ns) ds, overwritten (all_totals e op w ns) ts, costs e op w ns (length ms) xs) (ds, ts, ms)
+    step false eq = let refused : Ok tt ≡ Err BadTables = ap (λ p. p.0) eq in cc
+    step true eq =
+        let table : ts' ≡ overwritten (all_totals e op w ns) ts = ap (λ p. p.1.1) eq in
+        let depths : ds' ≡ overwritten (all_depths ns) ds = ap (λ p. p.1.0) eq in
+        let terms : ms' ≡ costs e op w ns (length ms) xs = charges ∙ charged_costs e op w ns ts ts' (length ms) xs table (sym all) in
+        (λ i. (Ok tt, (depths i, table i, terms i))) ∙ sym (ap (λ t. judged {X = List ℕ × List M × List (TermData M)} t (overwritten (all_depths ns) ds, overwritten (all_totals e op w ns) ts, costs e op w ns (length ms) xs) (ds, ts, ms)) (sym all))

@@ -3,13 +3,10 @@
 // Every list of nodes is a tree, and tables are lent. A call that finds one too short changes nothing.
 #![tactic(auto)]
 
-ghost use Rattle.std.specs.Prelude.{◌≡◌, ◌≤◌, true, length, take};
+ghost use Rattle.std.specs.Prelude.{◌≡◌};
 ghost use Rattle.measures.specs.Measures.{empty_size, size_sum, size_weight};
-ghost use Rattle.analysis.specs.Charges.{within};
-ghost use Rattle.analysis.specs.Costs.{costs, costed, Exact, Worked};
-ghost use Rattle.analysis.specs.Totals.{all_totals};
+ghost use Rattle.analysis.specs.Costs.{costed, Exact, Worked};
 
-use crate::nodes::sweep_front;
 use crate::terms::{charge_all, within};
 use items::Cdcl;
 use measures::{Measure, Size};
@@ -34,29 +31,16 @@ pub fn costs<M: Measure>(
 ) -> Result<(), Refusal>
     ensures { (result, (depths.new, totals.new, terms.new)) ≡ costed M.Join.nothing M.Join.joined M.Measure.weight nodes.now assignments.now depths.old totals.old terms.old }
 {
-    let count = nodes.len();
-    if depths.len() < count || totals.len() < count || !within(assignments, count, terms.len()) {
+    if !within(assignments, nodes.len(), terms.len()) {
         return Err(Refusal::BadTables);
     }
-    sweep_front(nodes, depths, totals);
-    charge_nodes(nodes, assignments, totals, terms);
+    nodes::totals(nodes, depths, totals)?;
+    charge_all(assignments, &totals[..nodes.len()], terms);
     Ok(())
 }
 
-// By the totals that stand in the first entries of a table.
-fn charge_nodes<M: Measure>(
-    nodes: &[Cdcl],
-    assignments: &[TreeAssignment],
-    totals: &[M],
-    terms: &mut [TermData<M>],
-)
-    requires { (within (length nodes.now) (length terms.old) assignments.now ≡ true) × ((length nodes.now ≤ length totals.now) × (take (length nodes.now) totals.now ≡ all_totals M.Join.nothing M.Join.joined M.Measure.weight nodes.now)) }
-    ensures { terms.new ≡ costs M.Join.nothing M.Join.joined M.Measure.weight nodes.now (length terms.old) assignments.now }
-{
-    charge_all(assignments, &totals[..nodes.len()], terms);
-}
-
 // The same by Size: what the Rust crate calls costs.
+#[tactic(auto, using(crate::proofs::Sizes::exact, crate::proofs::Sizes::worked))]
 pub fn size_costs(
     nodes: &[Cdcl],
     assignments: &[TreeAssignment],
@@ -67,19 +51,6 @@ pub fn size_costs(
     ensures after { (result, (depths.new, totals.new, terms.new)) ≡ costed empty_size size_sum size_weight nodes.now assignments.now depths.old totals.old terms.old }
     ensures exact { Exact nodes.now assignments.now }
     ensures worked { Worked }
-{
-    sweep_sizes(nodes, assignments, depths, totals, terms)
-}
-
-// What `size_costs` does, apart from the laws of it.
-fn sweep_sizes(
-    nodes: &[Cdcl],
-    assignments: &[TreeAssignment],
-    depths: &mut [usize],
-    totals: &mut [Size],
-    terms: &mut [TermData<Size>],
-) -> Result<(), Refusal>
-    ensures { (result, (depths.new, totals.new, terms.new)) ≡ costed empty_size size_sum size_weight nodes.now assignments.now depths.old totals.old terms.old }
 {
     costs(nodes, assignments, depths, totals, terms)
 }

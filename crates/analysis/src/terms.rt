@@ -1,12 +1,11 @@
 // The counts and charges of the terms, assignment by assignment.
-ghost use Rattle.std.specs.Prelude.{◌≡◌, ◌+◌, ◌<◌, true, map, length, take, slice_index_or};
-ghost use Rattle.std.specs.List.{range_with_len};
+ghost use Rattle.std.specs.Prelude.{◌≡◌, true, length};
 ghost use Rattle.analysis.specs.Answers.{judged};
-ghost use Rattle.analysis.specs.Charges.{fits, within, charged};
-ghost use Rattle.analysis.specs.Steps.{no_data, one_more, posted, stepped};
+ghost use Rattle.analysis.specs.Charges.{within, charged};
+ghost use Rattle.analysis.specs.Steps.{no_data, one_more, posted};
 
 use crate::data::{AssignData, TermData, TreeAssignment};
-use crate::entries::{entry_or, fill, put};
+use crate::entries::fill;
 use measures::Join;
 use refusal::Refusal;
 
@@ -14,18 +13,9 @@ use refusal::Refusal;
 pub(crate) fn within(assignments: &[TreeAssignment], nodes: usize, terms: usize) -> bool
     ensures { result ≡ within nodes terms assignments.now }
 {
-    for i in 0..assignments.len() {
-        if !fits(assignments[i], nodes, terms) {
-            return false;
-        }
-    }
-    true
-}
-
-fn fits(assignment: TreeAssignment, nodes: usize, terms: usize) -> bool
-    ensures { result ≡ fits nodes terms assignment }
-{
-    assignment.node < nodes && assignment.term.literal < terms
+    assignments
+        .iter()
+        .all(|a| a.node < nodes && a.term.literal < terms)
 }
 
 fn no_data<M: Join>() -> TermData<M>
@@ -57,48 +47,18 @@ fn posted<M: Join>(before: TermData<M>, value: bool, total: M) -> TermData<M>
     if value {
         TermData {
             positive: one_more(before.positive, total),
-            negative: before.negative,
+            ..before
         }
     } else {
         TermData {
-            positive: before.positive,
             negative: one_more(before.negative, total),
+            ..before
         }
     }
 }
 
-// Nothing at node 0.
-fn charge_one<M: Join>(assignment: TreeAssignment, totals: &[M], terms: &mut [TermData<M>])
-    ensures { terms.new ≡ stepped M.Join.nothing M.Join.joined (λ k. slice_index_or totals.now k M.Join.nothing) assignment terms.old }
-{
-    if assignment.node == 0 {
-        return;
-    }
-    let term = assignment.term.literal;
-    let total = entry_or(totals, assignment.node, M::unit());
-    let before = entry_or(terms, term, no_data());
-    put(terms, term, posted(before, assignment.term.value, total));
-}
-
-fn clear<M: Join>(terms: &mut [TermData<M>])
-    ensures { terms.new ≡ map (λ _. no_data M.Join.nothing) (range_with_len 0 (length terms.old)) }
-{
-    fill(terms, no_data());
-}
-
-// The assignment after the first i, where these are charged.
-fn charge_next<M: Join>(
-    assignments: &[TreeAssignment],
-    i: usize,
-    totals: &[M],
-    terms: &mut [TermData<M>],
-)
-    requires { (i < length assignments.now) × ((within (length totals.now) (length terms.old) assignments.now ≡ true) × (terms.old ≡ charged M.Join.nothing M.Join.joined totals.now (length terms.old) (take i assignments.now))) }
-    ensures { terms.new ≡ charged M.Join.nothing M.Join.joined totals.now (length terms.old) (take (i + 1) assignments.now) }
-{
-    charge_one(assignments[i], totals, terms);
-}
-
+// Cleared, then one for each assignment outside node 0.
+#[tactic(auto, using(crate::proofs::Within::within_at, crate::proofs::Tallies::charge_none, crate::proofs::Tallies::charge_more))]
 pub(crate) fn charge_all<M: Join>(
     assignments: &[TreeAssignment],
     totals: &[M],
@@ -107,9 +67,14 @@ pub(crate) fn charge_all<M: Join>(
     requires { within (length totals.now) (length terms.old) assignments.now ≡ true }
     ensures { terms.new ≡ charged M.Join.nothing M.Join.joined totals.now (length terms.old) assignments.now }
 {
-    clear(terms);
-    for i in 0..assignments.len() {
-        charge_next(assignments, i, totals, terms);
+    fill(terms, no_data());
+    for assignment in assignments {
+        if assignment.node == 0 {
+            continue;
+        }
+        let total = totals[assignment.node];
+        let term = assignment.term.literal;
+        terms[term] = posted(terms[term], assignment.term.value, total);
     }
 }
 

@@ -1,7 +1,7 @@
 // Literals, and the nodes of the search tree.
 
 // Entries of a table that follow one another: `count` of them, the first at the key `start`.
-#[derive(Clone, Copy)]
+#[derive(Clone, Copy, Debug, PartialEq, Eq)]
 pub struct Run {
     pub start: usize,
     pub count: usize,
@@ -15,7 +15,7 @@ pub struct Assignment {
 }
 
 // What led to an assignment; a theory goes by its number in the log.
-#[derive(Clone, Copy)]
+#[derive(Clone, Copy, Debug, PartialEq, Eq)]
 pub enum Justification {
     Axiom,
     Decision,
@@ -23,7 +23,7 @@ pub enum Justification {
     Propagate,
 }
 
-#[derive(Clone, Copy)]
+#[derive(Clone, Copy, Debug, PartialEq, Eq)]
 pub struct Literal {
     pub term: Assignment,
     pub frame: usize,
@@ -31,14 +31,14 @@ pub struct Literal {
 }
 
 // `cut` is a run of cut entries, `backtrack` the node to which the conflict leads.
-#[derive(Clone, Copy)]
+#[derive(Clone, Copy, Debug, PartialEq, Eq)]
 pub struct Conflict {
     pub cut: Run,
     pub backtrack: usize,
 }
 
 // A BeginCheck may hold its parent's number, an Empty node holds its parent's, a Decision that of its literal.
-#[derive(Clone, Copy)]
+#[derive(Clone, Copy, Debug, PartialEq, Eq)]
 pub enum CdclKind {
     Root,
     BeginCheck(Option<usize>),
@@ -48,7 +48,7 @@ pub enum CdclKind {
 }
 
 // `propagates` is a run of propagations; `conflicts` says that a conflict was found at the node.
-#[derive(Clone, Copy)]
+#[derive(Clone, Copy, Debug, PartialEq, Eq)]
 pub struct Cdcl {
     pub kind: CdclKind,
     pub frame: usize,

@@ -3,7 +3,7 @@
 
 ghost use Rattle.std.specs.Prelude.{◌≡◌, take, drop};
 ghost use Rattle.items.specs.Frames.{status_of, alive, new_frame};
-ghost use Rattle.items.specs.Nodes.{new_node, other_than, backlink_of, to_root, lead_of};
+ghost use Rattle.items.specs.Nodes.{new_node, backlink_of, to_root, lead_of};
 
 mod cdcl;
 mod stack;
@@ -15,14 +15,11 @@ impl TimeRange {
     pub fn status(self) -> TimeRangeStatus
         ensures { result ≡ status_of self }
     {
-        if self.start == 0 {
-            TimeRangeStatus::Global
-        } else if self.end == u32::MAX {
-            TimeRangeStatus::Active
-        } else if self.leaked {
-            TimeRangeStatus::Leaked
-        } else {
-            TimeRangeStatus::Ended
+        match self {
+            TimeRange { start: 0, .. } => TimeRangeStatus::Global,
+            TimeRange { end: u32::MAX, .. } => TimeRangeStatus::Active,
+            TimeRange { leaked: true, .. } => TimeRangeStatus::Leaked,
+            _ => TimeRangeStatus::Ended,
         }
     }
 }
@@ -32,10 +29,7 @@ impl TimeRangeStatus {
     pub fn is_alive(self) -> bool
         ensures { result ≡ alive self }
     {
-        match self {
-            TimeRangeStatus::Global | TimeRangeStatus::Active | TimeRangeStatus::Leaked => true,
-            TimeRangeStatus::Ended => false,
-        }
+        self != TimeRangeStatus::Ended
     }
 }
 
@@ -59,7 +53,8 @@ impl Run {
     pub fn entries<T>(self, table: &[T]) -> &[T]
         ensures { result.now ≡ take self.count (drop self.start table.now) }
     {
-        part(table, self.start, self.count)
+        let rest = &table[self.start.min(table.len())..];
+        &rest[..self.count.min(rest.len())]
     }
 }
 
@@ -84,7 +79,21 @@ impl Cdcl {
         ensures value { result ≡ backlink_of number self.kind }
         ensures lead { to_root result ≡ lead_of number self.kind }
     {
-        linked(self.kind, number)
+        let before = number.checked_sub(1);
+        let (previous, backtrack, sidetrack) = match self.kind {
+            CdclKind::Root => (None, None, false),
+            CdclKind::BeginCheck(None) => (None, Some(0), true),
+            CdclKind::BeginCheck(Some(parent)) | CdclKind::Empty(parent) => {
+                (before.filter(|&node| node != parent), Some(parent), true)
+            }
+            CdclKind::Decision(_) => (before, None, false),
+            CdclKind::Conflict(conflict) => (before, Some(conflict.backtrack), false),
+        };
+        CdclBacklink {
+            previous,
+            backtrack,
+            sidetrack,
+        }
     }
 }
 
@@ -93,61 +102,8 @@ impl CdclBacklink {
     pub fn to_root(self) -> Option<usize>
         ensures { result ≡ to_root self }
     {
-        match self.backtrack {
-            Some(node) => Some(node),
-            None => self.previous,
-        }
+        self.backtrack.or(self.previous)
     }
-}
-
-fn linked(kind: CdclKind, number: usize) -> CdclBacklink
-    ensures { result ≡ backlink_of number kind }
-{
-    match kind {
-        CdclKind::Root => CdclBacklink {
-            previous: None,
-            backtrack: None,
-            sidetrack: false,
-        },
-        CdclKind::BeginCheck(None) => CdclBacklink {
-            previous: None,
-            backtrack: Some(0),
-            sidetrack: true,
-        },
-        CdclKind::BeginCheck(Some(parent)) | CdclKind::Empty(parent) => CdclBacklink {
-            previous: other_than(parent, number.checked_sub(1)),
-            backtrack: Some(parent),
-            sidetrack: true,
-        },
-        CdclKind::Decision(_) => CdclBacklink {
-            previous: number.checked_sub(1),
-            backtrack: None,
-            sidetrack: false,
-        },
-        CdclKind::Conflict(conflict) => CdclBacklink {
-            previous: number.checked_sub(1),
-            backtrack: Some(conflict.backtrack),
-            sidetrack: false,
-        },
-    }
-}
-
-// The node, unless it is the other one.
-fn other_than(other: usize, node: Option<usize>) -> Option<usize>
-    ensures { result ≡ other_than other node }
-{
-    match node {
-        Some(number) if number != other => Some(number),
-        _ => None,
-    }
-}
-
-fn part<T>(table: &[T], start: usize, count: usize) -> &[T]
-    ensures { result.now ≡ take count (drop start table.now) }
-{
-    let from = start.min(table.len());
-    let to = from + count.min(table.len() - from);
-    &table[from..to]
 }
 
 #[cfg(test)]
@@ -216,7 +172,7 @@ mod tests {
             TimeRangeStatus::Global
         );
         let table = [10u32, 11, 12];
-        assert_eq!(rt; Run { start: 1, count: 5 }.entries(&table).len(), 2);
-        assert_eq!(rt; Run { start: 4, count: 1 }.entries(&table).len(), 0);
+        assert_eq!(rt; Run { start: 1, count: 5 }.entries(&table), &table[1..]);
+        assert_eq!(rt; Run { start: 4, count: 1 }.entries(&table), &table[..0]);
     }
 }

@@ -2,7 +2,7 @@
 
 // A frame stands from the clock value `start` on; an `end` of 4,294,967,295 means that there is none yet.
 // Any three values make a range: a start of 0 means Global, whatever the end and the flag are.
-#[derive(Clone, Copy)]
+#[derive(Clone, Copy, Debug, PartialEq, Eq)]
 pub struct TimeRange {
     pub start: u32,
     pub end: u32,
@@ -18,7 +18,7 @@ pub enum TimeRangeStatus {
 }
 
 // `from_cdcl` is the mark of a frame that belongs to the search for certain.
-#[derive(Clone, Copy)]
+#[derive(Clone, Copy, Debug, PartialEq, Eq)]
 pub struct StackFrame {
     pub from_cdcl: bool,
     pub active: TimeRange,

@@ -1,9 +1,9 @@
 // Joinings and measures: what is made of the nodes of a tree.
 #![tactic(auto)]
 
-ghost use Rattle.std.specs.Prelude.{◌≡◌, ℕ, ◌+◌, ◌%◌, ◌^◌};
+ghost use Rattle.std.specs.Prelude.{◌≡◌, ℕ};
 ghost use Rattle.items.specs.declared.cdcl.CdclKind.{CdclKind as Kind};
-ghost use Rattle.measures.specs.Measures.{size, empty_size, size_sum, size_weight, empty_reach, larger_reach, reach_weight};
+ghost use Rattle.measures.specs.Measures.{empty_size, size_sum, size_weight, empty_reach, larger_reach, reach_weight};
 ghost use Rattle.measures.specs.Sizes.{sizes_assoc, sizes_comm, sizes_none};
 ghost use Rattle.std.proofs.Common.{rules};
 
@@ -52,24 +52,14 @@ impl Join for Size {
     ghost unchanged = { sizes_none };
 
     fn unit() -> Size {
-        size(0)
+        Size { total: 0 }
     }
 
     fn join(self, other: Size) -> Size {
-        size(sum(self.total, other.total))
+        Size {
+            total: self.total.wrapping_add(other.total),
+        }
     }
-}
-
-fn size(total: u64) -> Size
-    ensures { result ≡ size total }
-{
-    Size { total }
-}
-
-fn sum(a: u64, b: u64) -> u64
-    ensures { result ≡ (a + b) % 2 ^ 64 }
-{
-    a.wrapping_add(b)
 }
 
 // Each node counts for one.
@@ -77,7 +67,7 @@ impl Measure for Size {
     ghost weight = { size_weight };
 
     fn weigh(_kind: CdclKind, _depth: usize) -> Size {
-        size(1)
+        Size { total: 1 }
     }
 }
 

@@ -1,6 +1,5 @@
 -- The leads in a list of nodes.
 --   lead ns k    the next node of k towards the root: the one that its kind names, where that is below k, else none; a node without a lead is a root
---   led ns o     the lead of the node o, or none where o is none
 use Rattle.std.specs.Prelude.{ℕ, cond, List, Some, None, Option, nat_lt}
 use Rattle.std.specs.List.{slice_get}
 use Rattle.items.specs.declared.cdcl.Cdcl.{Cdcl}
@@ -16,7 +15,3 @@ below k (Some p) = cond (nat_lt p k) (Some p) None
 
 abbrev pub lead : List Cdcl → ℕ → Option ℕ
 lead ns k = below k (named k (slice_get ns k))
-
-abbrev pub led : List Cdcl → Option ℕ → Option ℕ
-led ns None = None
-led ns (Some k) = lead ns k

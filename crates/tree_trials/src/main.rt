@@ -62,16 +62,11 @@ fn show(rt: &HostRuntime, name: &str, nodes: &[Cdcl]) -> anyhow::Result<()> {
     let mut sizes = [Size::unit(); 8];
     let mut reaches = [Reach::unit(); 8];
     println!(rt; "{name}")?;
-    if totals(nodes, &mut depths, &mut sizes).is_err() {
-        return Err(anyhow!("too many nodes"));
-    }
-    if totals(nodes, &mut depths, &mut reaches).is_err() {
-        return Err(anyhow!("too many nodes"));
-    }
-    for k in 0..nodes.len().min(8) {
-        let size = sizes[k].total;
-        let reach = reaches[k].depth;
-        let depth = depths[k];
+    totals(nodes, &mut depths, &mut sizes)?;
+    totals(nodes, &mut depths, &mut reaches)?;
+    let columns = depths.iter().zip(&sizes).zip(&reaches);
+    for (k, ((depth, size), reach)) in columns.take(nodes.len()).enumerate() {
+        let (size, reach) = (size.total, reach.depth);
         print!(rt; "node {k} depth {depth} size {size} reach {reach} way")?;
         print_way(rt, nodes, k)?;
     }
@@ -79,10 +74,7 @@ fn show(rt: &HostRuntime, name: &str, nodes: &[Cdcl]) -> anyhow::Result<()> {
 }
 
 fn print_way(rt: &HostRuntime, nodes: &[Cdcl], k: usize) -> anyhow::Result<()> {
-    let Ok(mut way) = ToRoot::new(nodes, k) else {
-        return Err(anyhow!("no such node"));
-    };
-    'way: while let Some(node) = way.next() {
+    for node in ToRoot::new(nodes, k)? {
         print!(rt; " {node}")?;
     }
     println!(rt)?;
@@ -104,22 +96,15 @@ fn charge(rt: &HostRuntime, nodes: &[Cdcl]) -> anyhow::Result<()> {
     let mut reaches = [Reach::unit(); 4];
     let mut by_size = [uncleared(Size::weigh(CdclKind::Root, 9)); 4];
     let mut by_reach = [uncleared(Reach::weigh(CdclKind::Root, 9)); 4];
-    if size_costs(nodes, &assignments, &mut depths, &mut sizes, &mut by_size).is_err() {
-        return Err(anyhow!("short tables"));
-    }
-    if totals(nodes, &mut depths, &mut reaches).is_err() {
-        return Err(anyhow!("short tables"));
-    }
-    if charges(&assignments, &reaches, &mut by_reach).is_err() {
-        return Err(anyhow!("short tables"));
-    }
+    size_costs(nodes, &assignments, &mut depths, &mut sizes, &mut by_size)?;
+    totals(nodes, &mut depths, &mut reaches)?;
+    charges(&assignments, &reaches, &mut by_reach)?;
     println!(rt; "charges")?;
     print_terms(rt, &by_size, &by_reach)?;
     // A table is short: refused, and all tables are as before.
-    let (few, _) = depths.split_at_mut(3);
+    let few = &mut depths[..3];
     let short_depths = size_costs(nodes, &[], few, &mut sizes, &mut by_size).is_err();
-    let (few, _) = reaches.split_at(3);
-    let short_totals = charges(&assignments, few, &mut by_reach).is_err();
+    let short_totals = charges(&assignments, &reaches[..3], &mut by_reach).is_err();
     println!(rt; "short depths refused {short_depths}, short totals refused {short_totals}")?;
     print_terms(rt, &by_size, &by_reach)
 }
@@ -129,12 +114,12 @@ fn print_terms(
     by_size: &[TermData<Size>],
     by_reach: &[TermData<Reach>],
 ) -> anyhow::Result<()> {
-    for term in 0..by_size.len().min(by_reach.len()) {
-        let (yes, no) = (by_size[term].positive, by_size[term].negative);
+    for (term, (by_size, by_reach)) in by_size.iter().zip(by_reach).enumerate() {
+        let (yes, no) = (by_size.positive, by_size.negative);
         let (true_count, true_size) = (yes.count, yes.charge.total);
         let (false_count, false_size) = (no.count, no.charge.total);
-        let true_reach = by_reach[term].positive.charge.depth;
-        let false_reach = by_reach[term].negative.charge.depth;
+        let true_reach = by_reach.positive.charge.depth;
+        let false_reach = by_reach.negative.charge.depth;
         print!(rt; "term {term} true {true_count} size {true_size} reach {true_reach} ")?;
         println!(rt; "false {false_count} size {false_size} reach {false_reach}")?;
     }

@@ -3,5 +3,5 @@ use Rattle.tree.specs.Leads.{lead}
 use Rattle.tree.proofs.Ways.{depth_le}
 use Rattle.tree.proofs.depth.Goals as goal
 
-pub overflow_add-steps : goal.overflow_add-steps
-overflow_add-steps c = let le = depth_le (lead c.args.nodes.now) c.args.number in search rules
+pub count-requires-clause-fits : goal.count-requires-clause-fits
+count-requires-clause-fits c = let le = depth_le (lead c.args.nodes.now) c.args.number in search rules

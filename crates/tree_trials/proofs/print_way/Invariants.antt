@@ -3,5 +3,5 @@ use Rattle.tree.specs.Left.{left}
 use Rattle.tree_trials.proofs.print_way.Given as goal
 
 -- the nodes still to come
-abbrev pub decreases-way : goal.decreases-way
-decreases-way l = length (left l.way)
+abbrev pub decreases-loop-node : goal.decreases-loop-node
+decreases-loop-node l = length (left l.node-iterator)

@@ -1,5 +1,5 @@
 use Rattle.std.proofs.Common.{◌≡◌, ℕ, ◌<◌, get_or}
 use Rattle.analysis.proofs.entries.fill.Given as goal
 
-abbrev pub invariant-loop-k : goal.invariant-loop-k
-invariant-loop-k g l = (i : ℕ) → i < l.k → get_or l.entries i l.entry ≡ l.entry
+abbrev pub invariant-loop-old : goal.invariant-loop-old
+invariant-loop-old g l = (k : ℕ) → k < l.old-index → get_or l.entries k l.entry ≡ l.entry

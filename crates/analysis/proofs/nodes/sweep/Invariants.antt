@@ -1,12 +1,8 @@
-use Rattle.std.proofs.Common.{◌≤◌, length}
 use Rattle.analysis.proofs.Joins.{lawful}
 use Rattle.analysis.proofs.Sweeps.{NodesSwept}
 use Rattle.analysis.proofs.nodes.sweep.Given as goal
 
-abbrev pub invariant-nodes : goal.invariant-nodes
-invariant-nodes g l =
+abbrev pub invariant-loop-k : goal.invariant-loop-k
+invariant-loop-k g l =
     let laws = lawful g.met.M.Join.assoc g.met.M.Join.comm g.met.M.Join.unchanged in
-    (l.k ≤ length l.nodes) × NodesSwept g.M.Join.nothing g.M.Join.joined laws g.M.Measure.weight l.nodes l.k l.totals
-
-abbrev pub decreases-nodes : goal.decreases-nodes
-decreases-nodes g l = l.k
+    NodesSwept g.M.Join.nothing g.M.Join.joined laws g.M.Measure.weight l.nodes l.k l.totals
