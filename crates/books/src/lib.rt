@@ -22,7 +22,7 @@ pub trait Book {
 // `#` and a number below the limit, with no zero in front of another digit, means that number.
 #[derive(Clone, Copy, Debug, PartialEq, Eq)]
 pub struct Numbered {
-    limit: usize,
+    pub limit: usize,
 }
 
 impl Numbered {
@@ -62,7 +62,7 @@ fn is_numbered(id: &[u8]) -> bool
 // An identifier that is not empty means the place of the first line of the text that equals it.
 #[derive(Clone, Copy, Debug, PartialEq, Eq)]
 pub struct Listed<'a> {
-    text: &'a [u8],
+    pub text: &'a [u8],
 }
 
 impl<'a> Listed<'a> {

@@ -3,7 +3,7 @@
 
 ghost use Rattle.std.specs.Prelude.{◌≡◌, ℕ, List, [], ◌++◌, OnOk};
 ghost use Rattle.std.specs.Option.{option_copied};
-ghost use Rattle.checker.specs.Answers.{answers, limit_of, KeepsRules, HasRead};
+ghost use Rattle.checker.specs.Answers.{answers, mode_of, limit_of, counts_of, KeepsRules, HasRead};
 ghost use Rattle.checker.specs.Tallies.{tally_of};
 ghost use Rattle.check_input.specs.Modes.{mode_for};
 
@@ -59,7 +59,7 @@ fn check_piece(rt: &HostRuntime, checker: &mut LogChecker<'_>, piece: &[u8]) -> 
 
 // The last line, where the input does not end in 0x0A.
 fn check_end(rt: &HostRuntime, checker: &mut LogChecker<'_>) -> io::Result<()>
-    ensures { (whole : List ℕ) → HasRead checker.old whole [] → checker.new.tally ≡ tally_of (answers checker.old.mode (limit_of checker.old) whole) }
+    ensures { (whole : List ℕ) → HasRead checker.old whole [] → counts_of checker.new ≡ tally_of (answers (mode_of checker.old) (limit_of checker.old) whole) }
 {
     if let Some(answer) = checker.finish() {
         print_refused(rt, checker.tally().lines, answer)?;

@@ -1,9 +1,9 @@
 // Each line of a log in pieces is answered as it ends.
 ghost use Rattle.std.specs.Prelude.{◌≡◌, ℕ, List, [], length, Some};
 ghost use Rattle.std.specs.Option.{option_map};
-ghost use Rattle.pieces.specs.Reader.{pending, seen};
+ghost use Rattle.pieces.specs.Reader.{seen};
 ghost use Rattle.pieces.specs.Reading.{kept};
-ghost use Rattle.checker.specs.Answers.{answer_to, answers, limit_of, checked, next_answer, last_answer, GoesOn, KeepsRules, HasRead};
+ghost use Rattle.checker.specs.Answers.{answer_to, answers, mode_of, limit_of, counts_of, at_hand_of, checked, next_answer, last_answer, GoesOn, KeepsRules, HasRead};
 ghost use Rattle.checker.specs.Tallies.{tally_of, noted_after};
 
 use crate::tally::Tally;
@@ -22,9 +22,9 @@ impl<'c> LogChecker<'c> {
     // A line may have as many bytes as the carry memory.
     pub fn new(carry: &'c mut [u8], mode: Mode) -> Self
         ensures room { limit_of result ≡ length carry.old }
-        ensures mode { result.mode ≡ mode }
-        ensures tally { result.tally ≡ tally_of [] }
-        ensures empty { pending result.reader ≡ kept [] }
+        ensures mode { mode_of result ≡ mode }
+        ensures tally { counts_of result ≡ tally_of [] }
+        ensures empty { at_hand_of result ≡ kept [] }
         ensures reads { HasRead result [] [] }
     {
         LogChecker {
@@ -36,7 +36,7 @@ impl<'c> LogChecker<'c> {
 
     // How many lines of each kind there were so far.
     pub fn tally(&self) -> Tally
-        ensures { result ≡ self.now.tally }
+        ensures { result ≡ counts_of self.now }
     {
         self.tally
     }
@@ -45,7 +45,7 @@ impl<'c> LogChecker<'c> {
     #[tactic(auto, using(crate::proofs::Owed::reads_next))]
     pub fn next<'p>(&mut self, text: &'p [u8]) -> (Option<Result<LineKind, Refusal>>, &'p [u8])
         ensures value { checked result self.new ≡ next_answer self.old text.now }
-        ensures after { self.new.tally ≡ noted_after self.old.tally result.0 }
+        ensures after { counts_of self.new ≡ noted_after (counts_of self.old) result.0 }
         ensures rules { KeepsRules self.old self.new }
         ensures len { GoesOn result.0 result.1.now text.now }
         ensures reads { (whole : List ℕ) → HasRead self.old whole text.now → HasRead self.new whole result.1.now }
@@ -58,10 +58,10 @@ impl<'c> LogChecker<'c> {
     #[tactic(auto, using(crate::proofs::Owed::reads_all))]
     pub fn finish(&mut self) -> Option<Result<LineKind, Refusal>>
         ensures value { result ≡ last_answer self.old }
-        ensures after { self.new.tally ≡ noted_after self.old.tally result }
+        ensures after { counts_of self.new ≡ noted_after (counts_of self.old) result }
         ensures rules { KeepsRules self.old self.new }
-        ensures empty { pending self.new.reader ≡ kept [] }
-        ensures reads { (whole : List ℕ) → HasRead self.old whole [] → self.new.tally ≡ tally_of (answers self.old.mode (limit_of self.old) whole) }
+        ensures empty { at_hand_of self.new ≡ kept [] }
+        ensures reads { (whole : List ℕ) → HasRead self.old whole [] → counts_of self.new ≡ tally_of (answers (mode_of self.old) (limit_of self.old) whole) }
     {
         let found = self.reader.finish();
         self.noted(&[], found)
@@ -74,7 +74,7 @@ impl<'c> LogChecker<'c> {
         found: Option<Result<Span, TooLong>>,
     ) -> Option<Result<LineKind, Refusal>>
         ensures value { result ≡ option_map (answer_to self.old.mode) (seen found text.now self.old.reader) }
-        ensures after { self.new.tally ≡ noted_after self.old.tally result }
+        ensures after { counts_of self.new ≡ noted_after (counts_of self.old) result }
         ensures mode { self.new.mode ≡ self.old.mode }
         ensures reader { self.new.reader ≡ self.old.reader }
     {

@@ -7,7 +7,7 @@ use Rattle.std.specs.Prelude.{◌≡◌, ℕ, List, Some, None, Ok, Err, Option,
 use Rattle.refusal.specs.declared.refusals.Refusal.{Refusal}
 use Rattle.words.specs.declared.rest.Word.{Word}
 use Rattle.words.specs.declared.rest.Words.{Words}
-use Rattle.words.specs.Left.{left, end, word_of}
+use Rattle.words.specs.Left.{left, line_of, end, word_of}
 use Rattle.words.specs.Words.{Placed}
 use Rattle.events.specs.declared.shapes.Event.{Event}
 use Rattle.events.specs.declared.shapes.Event.TheVariants as event
@@ -54,9 +54,9 @@ next_shown (Err e) = Err e
 -- what an event leaves to be read is left of the line itself
 abbrev pub OfLine : List ℕ → Result Event Refusal → Type 0
 OfLine text (Ok event.Other) = Unit {0}
-OfLine text (Ok (event.Assign n rest)) = rest.line.now ≡ text
+OfLine text (Ok (event.Assign n rest)) = line_of rest ≡ text
 OfLine text (Ok event.DecideAndOr) = Unit {0}
-OfLine text (Ok (event.Conflict l)) = l.rest.line.now ≡ text
+OfLine text (Ok (event.Conflict l)) = line_of l.rest ≡ text
 OfLine text (Ok (event.Push s)) = Unit {0}
 OfLine text (Ok (event.Pop n s)) = Unit {0}
 OfLine text (Ok (event.BeginCheck s)) = Unit {0}

@@ -1,6 +1,6 @@
 // A line of a trace as one event.
 ghost use Rattle.std.specs.Prelude.{◌≡◌};
-ghost use Rattle.words.specs.Left.{left, end};
+ghost use Rattle.words.specs.Left.{left, line_of, end};
 ghost use Rattle.events.specs.Lines.{integer, by_kind, event_of, line_kind};
 ghost use Rattle.events.specs.Laws.{Names, NumberedAlike, Steady, Reached};
 ghost use Rattle.events.specs.Shown.{read_of, shown, OfLine};
@@ -16,7 +16,7 @@ use words::Words;
 // A number of 64 bits, not below the least.
 fn integer(words: &mut Words, least: u64) -> Result<u64, Refusal>
     ensures value { read_of result words.new ≡ integer least (end words.old) (left words.old) }
-    ensures same { words.new.line.now ≡ words.old.line.now }
+    ensures same { line_of words.new ≡ line_of words.old }
 {
     let Some(word) = words.next() else {
         return Err(Refusal::UnexpectedNewline { place: words.end() });
@@ -29,7 +29,7 @@ fn integer(words: &mut Words, least: u64) -> Result<u64, Refusal>
 
 fn assign<'a>(mut words: Words<'a>) -> Result<Event<'a>, Refusal>
     ensures value { shown result ≡ by_kind LineKind.Assign (end words.entry) (left words.entry) }
-    ensures same { OfLine words.entry.line.now result }
+    ensures same { OfLine (line_of words.entry) result }
 {
     let Some(literal) = named_literal(&mut words)? else {
         return Err(Refusal::UnexpectedNewline { place: words.end() });
@@ -42,7 +42,7 @@ fn assign<'a>(mut words: Words<'a>) -> Result<Event<'a>, Refusal>
 
 fn push<'a>(mut words: Words<'a>) -> Result<Event<'a>, Refusal>
     ensures value { shown result ≡ by_kind LineKind.Push (end words.entry) (left words.entry) }
-    ensures same { OfLine words.entry.line.now result }
+    ensures same { OfLine (line_of words.entry) result }
 {
     let scope = integer(&mut words, 0)?;
     expect_completed(words)?;
@@ -51,7 +51,7 @@ fn push<'a>(mut words: Words<'a>) -> Result<Event<'a>, Refusal>
 
 fn pop<'a>(mut words: Words<'a>) -> Result<Event<'a>, Refusal>
     ensures value { shown result ≡ by_kind LineKind.Pop (end words.entry) (left words.entry) }
-    ensures same { OfLine words.entry.line.now result }
+    ensures same { OfLine (line_of words.entry) result }
 {
     let count = integer(&mut words, 1)?;
     let scope = integer(&mut words, 0)?;
@@ -61,7 +61,7 @@ fn pop<'a>(mut words: Words<'a>) -> Result<Event<'a>, Refusal>
 
 fn begin_check<'a>(mut words: Words<'a>) -> Result<Event<'a>, Refusal>
     ensures value { shown result ≡ by_kind LineKind.BeginCheck (end words.entry) (left words.entry) }
-    ensures same { OfLine words.entry.line.now result }
+    ensures same { OfLine (line_of words.entry) result }
 {
     let scope = integer(&mut words, 0)?;
     Ok(Event::BeginCheck { scope })

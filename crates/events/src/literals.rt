@@ -1,6 +1,6 @@
 // Literals, read from the words of a line.
 ghost use Rattle.std.specs.Prelude.{◌≡◌};
-ghost use Rattle.words.specs.Left.{left, end, word_of};
+ghost use Rattle.words.specs.Left.{left, line_of, end, word_of};
 ghost use Rattle.events.specs.Laws.{NamedPart};
 ghost use Rattle.events.specs.Lines.{passed};
 ghost use Rattle.events.specs.Literals.{after_not, named, variable, bare, p_literal, prefixed, solver, next_literal, literals, given, Shorter};
@@ -14,7 +14,7 @@ use words::{Word, Words, same_bytes};
 // The word that follows `(not`, without the `)` that it must end in.
 fn closed_word<'a>(words: &mut Words<'a>) -> Result<Word<'a>, Refusal>
     ensures value { word_read result words.new ≡ after_not (end words.old) (left words.old) }
-    ensures same { words.new.line.now ≡ words.old.line.now }
+    ensures same { line_of words.new ≡ line_of words.old }
 {
     let Some(Word { letters, place }) = words.next() else {
         return Err(Refusal::UnexpectedNewline { place: words.end() });
@@ -28,7 +28,7 @@ fn closed_word<'a>(words: &mut Words<'a>) -> Result<Word<'a>, Refusal>
 // The next named literal, or nothing where no word is left.
 pub(crate) fn named_literal<'a>(words: &mut Words<'a>) -> Result<Option<NamedLiteral<'a>>, Refusal>
     ensures value { named_read result words.new ≡ named (end words.old) (left words.old) }
-    ensures same { words.new.line.now ≡ words.old.line.now }
+    ensures same { line_of words.new ≡ line_of words.old }
 {
     let Some(word) = words.next() else {
         return Ok(None);
@@ -108,7 +108,7 @@ pub(crate) fn solver_literal(words: &mut Words, mode: Mode) -> Result<SolverLite
 impl<'a> Literals<'a> {
     fn step(&mut self) -> Result<Option<NamedLiteral<'a>>, Refusal>
         ensures value { (next_shown result, left self.new.rest) ≡ next_literal (end self.old.rest) (left self.old.rest) }
-        ensures same { self.new.rest.line.now ≡ self.old.rest.line.now }
+        ensures same { line_of self.new.rest ≡ line_of self.old.rest }
     {
         let mut rest = self.rest;
         let Some(literal) = named_literal(&mut rest)? else {
@@ -122,9 +122,9 @@ impl<'a> Literals<'a> {
     #[tactic(auto, using(crate::proofs::Cursors::step_given, crate::proofs::Cursors::step_fewer))]
     pub fn next(&mut self) -> Result<Option<NamedLiteral<'a>>, Refusal>
         ensures value { (next_shown result, left self.new.rest) ≡ next_literal (end self.old.rest) (left self.old.rest) }
-        ensures same { self.new.rest.line.now ≡ self.old.rest.line.now }
+        ensures same { line_of self.new.rest ≡ line_of self.old.rest }
         ensures laws { literals (end self.old.rest) (left self.old.rest) ≡ given (next_shown result) (literals (end self.old.rest) (left self.new.rest)) }
-        ensures names { NamedPart self.old.rest.line.now (next_shown result) }
+        ensures names { NamedPart (line_of self.old.rest) (next_shown result) }
         ensures shorter { Shorter (next_shown result) (left self.new.rest) (left self.old.rest) }
     {
         self.step()

@@ -65,7 +65,7 @@ pub struct NamedLiteral<'a> {
 // The named literals that are left of a line.
 #[derive(Clone, Copy, Debug, PartialEq, Eq)]
 pub struct Literals<'a> {
-    pub(crate) rest: Words<'a>,
+    pub rest: Words<'a>,
 }
 
 #[derive(Clone, Copy, Debug, PartialEq, Eq)]

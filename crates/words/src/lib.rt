@@ -6,7 +6,7 @@ ghost use Rattle.std.specs.Iterator.{YieldsFirstBy, MakesProgress, item_count};
 ghost use Rattle.std.specs.List.{prefix_len, AllByRecursion};
 ghost use Rattle.std.specs.Str.{bytes_eq};
 ghost use Rattle.words.specs.Words.{separator, letter, blanks, next_word, Cut, words, words_by, Stands};
-ghost use Rattle.words.specs.Left.{left, end, word_of, Part};
+ghost use Rattle.words.specs.Left.{left, line_of, end, word_of, Part};
 
 mod rest;
 
@@ -73,7 +73,7 @@ impl<'a> Words<'a> {
     // All words of a line.
     pub fn of(line: &'a [u8]) -> Self
         ensures value { left result ≡ words 0 line.now }
-        ensures same { result.line.now ≡ line.now }
+        ensures same { line_of result ≡ line.now }
     {
         Words { line, place: 0 }
     }
@@ -98,8 +98,8 @@ impl<'a> Iterator for Words<'a> {
     fn next(&mut self) -> Option<Word<'a>>
         ensures steps { YieldsFirstBy word_of left self.old result self.new }
         ensures goes { MakesProgress (λ _. Unit {0}) (item_count left) self.old result self.new }
-        ensures same { self.new.line.now ≡ self.old.line.now }
-        ensures parts { Part self.old.line.now result }
+        ensures same { line_of self.new ≡ line_of self.old }
+        ensures parts { Part (line_of self.old) result }
     {
         let line = self.line;
         let (letters, after) = word_from(line, self.place);
