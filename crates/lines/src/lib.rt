@@ -2,10 +2,8 @@
 #![tactic(auto)]
 
 ghost use Rattle.std.specs.Prelude.{◌≡◌};
-ghost use Rattle.std.specs.Iterator.{YieldsFirstRef, item_count};
 ghost use Rattle.std.specs.Option.{option_map};
-ghost use Rattle.lines.specs.Lines.{line_len, split, first_line, both_now, Cut, Laws};
-ghost use Rattle.lines.specs.Left.{left};
+ghost use Rattle.lines.specs.Lines.{line_len, first_line, both_now, Cut, Laws};
 
 mod left;
 
@@ -39,28 +37,6 @@ fn cut_line(text: &[u8]) -> Option<(&[u8], &[u8])>
     match rest.split_first() {
         Some((_feed, after)) => Some((line, after)),
         None => Some((line, rest)),
-    }
-}
-
-impl<'a> Lines<'a> {
-    pub fn of(text: &'a [u8]) -> Self
-        ensures { left result ≡ split text.now }
-    {
-        Lines { text }
-    }
-}
-
-impl<'a> Iterator for Lines<'a> {
-    type Item = &'a [u8];
-
-    ghost next_gives = { YieldsFirstRef left };
-
-    ghost remaining = { item_count left };
-
-    fn next(&mut self) -> Option<&'a [u8]> {
-        let (line, rest) = first_line(self.text)?;
-        self.text = rest;
-        Some(line)
     }
 }
 

@@ -2,11 +2,9 @@
 #![tactic(auto)]
 
 ghost use Rattle.std.specs.Prelude.{◌≡◌, ◌≤◌, length, drop};
-ghost use Rattle.std.specs.Iterator.{YieldsFirstBy, MakesProgress, item_count};
 ghost use Rattle.std.specs.List.{prefix_len, AllByRecursion};
 ghost use Rattle.std.specs.Str.{bytes_eq};
 ghost use Rattle.words.specs.Words.{separator, letter, blanks, next_word, Cut, words, words_by, Stands};
-ghost use Rattle.words.specs.Left.{left, line_of, end, word_of, Part};
 
 mod rest;
 
@@ -67,47 +65,4 @@ fn word_from(line: &[u8], place: usize) -> (&[u8], usize)
     let (_, text) = line.split_at(place);
     let (letters, rest) = next_word(text);
     (letters, line.len() - rest.len())
-}
-
-impl<'a> Words<'a> {
-    // All words of a line.
-    pub fn of(line: &'a [u8]) -> Self
-        ensures value { left result ≡ words 0 line.now }
-        ensures same { line_of result ≡ line.now }
-    {
-        Words { line, place: 0 }
-    }
-
-    // The line's length: the place where a word is missing.
-    pub fn end(self) -> usize
-        ensures { result ≡ end self.entry }
-    {
-        self.line.len()
-    }
-}
-
-// The words that are left, from the first on.
-impl<'a> Iterator for Words<'a> {
-    type Item = Word<'a>;
-
-    ghost next_gives = { YieldsFirstBy word_of left };
-
-    ghost remaining = { item_count left };
-
-    #[tactic(auto, using(crate::proofs::Left::fewer))]
-    fn next(&mut self) -> Option<Word<'a>>
-        ensures steps { YieldsFirstBy word_of left self.old result self.new }
-        ensures goes { MakesProgress (λ _. Unit {0}) (item_count left) self.old result self.new }
-        ensures same { line_of self.new ≡ line_of self.old }
-        ensures parts { Part (line_of self.old) result }
-    {
-        let line = self.line;
-        let (letters, after) = word_from(line, self.place);
-        if letters.is_empty() {
-            return None;
-        }
-        self.place = after;
-        let place = after - letters.len();
-        Some(Word { letters, place })
-    }
 }

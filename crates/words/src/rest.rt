@@ -1,5 +1,9 @@
 // What is left of a line, which knows its place there.
-ghost use Rattle.std.specs.Prelude.{◌≤◌, length};
+ghost use Rattle.std.specs.Prelude.{◌≡◌, ◌≤◌, length};
+ghost use Rattle.std.specs.Iterator.{YieldsFirstBy, MakesProgress, item_count};
+ghost use Rattle.words.specs.Words.{words};
+
+use crate::word_from;
 
 // A word and the place of its first byte in the line.
 #[derive(Clone, Copy, Debug, PartialEq, Eq)]
@@ -11,7 +15,54 @@ pub struct Word<'a> {
 // A line and the place in it from which on it is still to be read.
 #[derive(Clone, Copy, Debug, PartialEq, Eq)]
 pub struct Words<'a> {
-    pub(crate) line: &'a [u8],
-    pub(crate) place: usize,
+    line: &'a [u8],
+    place: usize,
     ghost within: { place ≤ length line.now },
+}
+
+impl<'a> Words<'a> {
+    ghost use Rattle.words.specs.Left.{left, line_of, end};
+
+    // All words of a line.
+    pub fn of(line: &'a [u8]) -> Self
+        ensures value { left result ≡ words 0 line.now }
+        ensures same { line_of result ≡ line.now }
+    {
+        Words { line, place: 0 }
+    }
+
+    // The line's length: the place where a word is missing.
+    pub fn end(self) -> usize
+        ensures { result ≡ end self.entry }
+    {
+        self.line.len()
+    }
+}
+
+// The words that are left, from the first on.
+impl<'a> Iterator for Words<'a> {
+    ghost use Rattle.words.specs.Left.{left, line_of, word_of, Part};
+
+    type Item = Word<'a>;
+
+    ghost next_gives = { YieldsFirstBy word_of left };
+
+    ghost remaining = { item_count left };
+
+    #[tactic(auto, using(crate::proofs::Left::fewer))]
+    fn next(&mut self) -> Option<Word<'a>>
+        ensures steps { YieldsFirstBy word_of left self.old result self.new }
+        ensures goes { MakesProgress (λ _. Unit {0}) (item_count left) self.old result self.new }
+        ensures same { line_of self.new ≡ line_of self.old }
+        ensures parts { Part (line_of self.old) result }
+    {
+        let line = self.line;
+        let (letters, after) = word_from(line, self.place);
+        if letters.is_empty() {
+            return None;
+        }
+        self.place = after;
+        let place = after - letters.len();
+        Some(Word { letters, place })
+    }
 }
