@@ -39,7 +39,7 @@ pub fn costs<M: Measure>(
     Ok(())
 }
 
-// The same by Size: what the Rust crate calls costs.
+// The same by Size: what the Rust crate calls costs. The bound on its sums speaks of Size alone.
 #[tactic(auto, using(crate::proofs::Sizes::exact, crate::proofs::Sizes::worked))]
 pub fn size_costs(
     nodes: &[Cdcl],

@@ -14,6 +14,7 @@ fn find_depths(nodes: &[Cdcl], depths: &mut [usize])
     requires { length depths.old ≡ length nodes.now }
     ensures { depths.new ≡ all_depths nodes.now }
 {
+    // By number, since `lead` is asked by it, and lower depths are read by it.
     for k in 0..nodes.len() {
         depths[k] = match lead(nodes, k) {
             Some(next) => depths[next] + 1,
@@ -30,6 +31,7 @@ fn sweep<M: Measure>(nodes: &[Cdcl], depths: &[usize], totals: &mut [M])
     ensures { totals.new ≡ all_totals M.Join.nothing M.Join.joined M.Measure.weight nodes.now }
 {
     fill(totals, M::unit());
+    // By number, as before; over the nodes from behind, the bounds at k stay open.
     for k in (0..nodes.len()).rev() {
         let weight = M::weigh(nodes[k].kind, depths[k]);
         let total = totals[k].join(weight);

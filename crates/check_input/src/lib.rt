@@ -33,6 +33,7 @@ pub fn check_input<R: Read>(rt: &HostRuntime, input: &mut R, mode: Mode) -> io::
     let mut carry = [0u8; LONGEST_LINE];
     let mut checker = LogChecker::new(&mut carry, mode);
     let mut piece = [0u8; PIECE];
+    // Every loop is proved to end, so the pieces are counted.
     for _ in 0..u64::MAX {
         let count = input.read(&mut piece)?;
         if count == 0 {

@@ -118,7 +118,7 @@ impl<'a> Literals<'a> {
         Ok(Some(literal))
     }
 
-    // The next literal, or nothing at the line's end; at a fault the cursor stays.
+    // The next literal, or nothing at the line's end. At a fault the cursor stays, so it is no `Iterator`, which would have no end.
     #[tactic(auto, using(crate::proofs::Cursors::step_given, crate::proofs::Cursors::step_fewer))]
     pub fn next(&mut self) -> Result<Option<NamedLiteral<'a>>, Refusal>
         ensures value { (next_shown result, left self.new.rest) ≡ next_literal (end self.old.rest) (left self.old.rest) }

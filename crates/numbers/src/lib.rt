@@ -51,6 +51,7 @@ fn grown(value: u64, b: u8, limit: u64) -> Option<u64>
     if more <= limit { Some(more) } else { None }
 }
 
+// The two limits that lines have; `number` reads for every limit.
 pub fn number_u64(text: &[u8]) -> Option<u64>
     ensures { result ≡ numeral (2 ^ 64 - 1) text.now }
 {

@@ -10,7 +10,7 @@ mod rest;
 
 pub use rest::{Word, Words};
 
-// Whether two words are equal, byte by byte.
+// Whether two words are equal, byte by byte. A fixed word is an array, which `==` would want as a slice at each place.
 pub fn same_bytes(word: &[u8], text: &[u8]) -> bool
     ensures { result ≡ bytes_eq word.now text.now }
 {
