@@ -29,7 +29,7 @@ pub fn mode_for(first: Option<&str>, second: Option<&str>) -> Option<Mode>
 }
 
 // Prints a line for each refused line, and then the tally.
-pub fn check_input<R: Read>(rt: &HostRuntime, input: &mut R, mode: Mode) -> io::Result<()> {
+pub fn check_input<R: Read>(rt: &impl Print, input: &mut R, mode: Mode) -> io::Result<()> {
     let mut carry = [0u8; LONGEST_LINE];
     let mut checker = LogChecker::new(&mut carry, mode);
     let mut piece = [0u8; PIECE];
@@ -46,7 +46,7 @@ pub fn check_input<R: Read>(rt: &HostRuntime, input: &mut R, mode: Mode) -> io::
 }
 
 // All lines that end in the piece.
-fn check_piece(rt: &HostRuntime, checker: &mut LogChecker<'_>, piece: &[u8]) -> io::Result<()>
+fn check_piece(rt: &impl Print, checker: &mut LogChecker<'_>, piece: &[u8]) -> io::Result<()>
     ensures rules { KeepsRules checker.old checker.new }
     ensures reads { OnOk result ((whole : List ℕ) → HasRead checker.old whole [] → HasRead checker.new (whole ++ piece.now) []) }
 {
@@ -59,7 +59,7 @@ fn check_piece(rt: &HostRuntime, checker: &mut LogChecker<'_>, piece: &[u8]) -> 
 }
 
 // The last line, where the input does not end in 0x0A.
-fn check_end(rt: &HostRuntime, checker: &mut LogChecker<'_>) -> io::Result<()>
+fn check_end(rt: &impl Print, checker: &mut LogChecker<'_>) -> io::Result<()>
     ensures { (whole : List ℕ) → HasRead checker.old whole [] → counts_of checker.new ≡ tally_of (answers (mode_of checker.old) (limit_of checker.old) whole) }
 {
     if let Some(answer) = checker.finish() {
@@ -68,7 +68,7 @@ fn check_end(rt: &HostRuntime, checker: &mut LogChecker<'_>) -> io::Result<()>
     Ok(())
 }
 
-fn print_refused(rt: &HostRuntime, line: u64, answer: Result<LineKind, Refusal>) -> io::Result<()> {
+fn print_refused(rt: &impl Print, line: u64, answer: Result<LineKind, Refusal>) -> io::Result<()> {
     if let Err(refusal) = answer {
         rt.println(RefusedLine { line, refusal })?;
     }

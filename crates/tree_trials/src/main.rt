@@ -57,7 +57,7 @@ fn conflict(backtrack: usize) -> Cdcl {
     node(CdclKind::Conflict(Conflict { cut, backtrack }))
 }
 
-fn show(rt: &HostRuntime, name: &str, nodes: &[Cdcl]) -> anyhow::Result<()> {
+fn show(rt: &impl Print, name: &str, nodes: &[Cdcl]) -> anyhow::Result<()> {
     let mut depths = [0usize; 8];
     let mut sizes = [Size::unit(); 8];
     let mut reaches = [Reach::unit(); 8];
@@ -73,7 +73,7 @@ fn show(rt: &HostRuntime, name: &str, nodes: &[Cdcl]) -> anyhow::Result<()> {
     Ok(())
 }
 
-fn print_way(rt: &HostRuntime, nodes: &[Cdcl], k: usize) -> anyhow::Result<()> {
+fn print_way(rt: &impl Print, nodes: &[Cdcl], k: usize) -> anyhow::Result<()> {
     for node in ToRoot::new(nodes, k)? {
         print!(rt; " {node}")?;
     }
@@ -82,7 +82,7 @@ fn print_way(rt: &HostRuntime, nodes: &[Cdcl], k: usize) -> anyhow::Result<()> {
 }
 
 // Two assignments of term 2 stand at node 1, and one of term 0 at node 0.
-fn charge(rt: &HostRuntime, nodes: &[Cdcl]) -> anyhow::Result<()> {
+fn charge(rt: &impl Print, nodes: &[Cdcl]) -> anyhow::Result<()> {
     let assignments = [
         assigned(0, true, 0),
         assigned(1, true, 1),
@@ -110,7 +110,7 @@ fn charge(rt: &HostRuntime, nodes: &[Cdcl]) -> anyhow::Result<()> {
 }
 
 fn print_terms(
-    rt: &HostRuntime,
+    rt: &impl Print,
     by_size: &[TermData<Size>],
     by_reach: &[TermData<Reach>],
 ) -> anyhow::Result<()> {
@@ -141,7 +141,7 @@ fn uncleared<M: Join>(charge: M) -> TermData<M> {
 }
 
 // A chain and a star of 1,048,576 nodes, and 4,194,304 assignments at node 1 of each.
-fn large(rt: &HostRuntime) -> anyhow::Result<()> {
+fn large(rt: &(impl Print + Alloc)) -> anyhow::Result<()> {
     let count = 1048576;
     let mut nodes = vec![in rt.alloc(); node(CdclKind::Root); count]?;
     let mut depths = vec![in rt.alloc(); 0usize; count]?;

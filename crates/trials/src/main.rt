@@ -6,6 +6,7 @@ use check_input::check_input;
 use events::Mode;
 use std::env;
 use std::fs::File;
+use std::rt::Files;
 
 fn main(rt: HostRuntime) -> anyhow::Result<()> {
     for arg in env::args(&rt)?.skip(1) {
@@ -14,7 +15,7 @@ fn main(rt: HostRuntime) -> anyhow::Result<()> {
     Ok(())
 }
 
-fn check_file(rt: &HostRuntime, arg: &str) -> anyhow::Result<()> {
+fn check_file(rt: &(impl Files + Print), arg: &str) -> anyhow::Result<()> {
     let (mode, name) = arg.split_once(':').context("no mode")?;
     let mode = match mode {
         "bare" => Mode::Bare,

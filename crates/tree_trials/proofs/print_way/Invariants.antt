@@ -4,4 +4,4 @@ use Rattle.tree_trials.proofs.print_way.Given as goal
 
 -- the nodes still to come
 abbrev pub decreases-loop-node : goal.decreases-loop-node
-decreases-loop-node l = length (left l.node-iterator)
+decreases-loop-node g l = length (left l.node-iterator)
