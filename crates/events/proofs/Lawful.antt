@@ -142,11 +142,7 @@ module _ (line : List ℕ) where
   pub event_named : Names line (event_of line)
   event_named = said_named (length line) (words 0 line) (words_stand 0 line)
 
--- an answer names parts of the line, if it is what the line says
-pub named_by : (line : List ℕ) (r : Result Said Refusal) → r ≡ event_of line → Names line r
-named_by line r e = subst (Names line) (sym e) (event_named line)
-
--- so does the literal that a cursor gives
+-- the literal that a cursor gives is a part of the line
 pub given_by : (w : Words) (rest : List Placed) (r : Result (Option Named) Refusal) → (r, rest) ≡ next_literal (end w) (left w) → NamedPart w.line.now r
 given_by w rest r e = next_named w.line.now (end w) (left w) rest r (left_stand w.place w.line.now) e
 

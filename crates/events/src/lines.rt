@@ -67,9 +67,15 @@ fn begin_check<'a>(mut words: Words<'a>) -> Result<Event<'a>, Refusal>
     Ok(Event::BeginCheck { scope })
 }
 
-fn event<'a>(line: &'a [u8]) -> Result<Event<'a>, Refusal>
+// What a line says, as far as it is read before a book is asked.
+#[tactic(auto, using(crate::proofs::Lawful::event_named, crate::proofs::Lawful::steady_event, crate::proofs::Reach::reached, crate::proofs::Lawful::worked))]
+pub fn read_event(line: &[u8]) -> Result<Event<'_>, Refusal>
     ensures value { shown result ≡ event_of line.now }
     ensures same { OfLine line.now result }
+    ensures names { Names line.now (event_of line.now) }
+    ensures steady { Steady event_of }
+    ensures reached { Reached }
+    ensures worked { Worked }
 {
     let mut rest = Words::of(line);
     let Some(word) = rest.next() else {
@@ -88,19 +94,6 @@ fn event<'a>(line: &'a [u8]) -> Result<Event<'a>, Refusal>
     }
 }
 
-// What a line says, as far as it is read before a book is asked.
-#[tactic(auto, using(crate::proofs::Lawful::named_by, crate::proofs::Lawful::steady_event, crate::proofs::Reach::reached, crate::proofs::Lawful::worked))]
-pub fn read_event(line: &[u8]) -> Result<Event<'_>, Refusal>
-    ensures value { shown result ≡ event_of line.now }
-    ensures same { OfLine line.now result }
-    ensures names { Names line.now (shown result) }
-    ensures steady { Steady event_of }
-    ensures reached { Reached }
-    ensures worked { Worked }
-{
-    event(line)
-}
-
 // The kind of a line, once all of it is read; no book is asked.
 #[tactic(auto, using(crate::proofs::Lawful::kind_numbered, crate::proofs::Lawful::steady_kind))]
 pub fn check_line(line: &[u8], mode: Mode) -> Result<LineKind, Refusal>
@@ -108,14 +101,17 @@ pub fn check_line(line: &[u8], mode: Mode) -> Result<LineKind, Refusal>
     ensures numbers { NumberedAlike mode line.now }
     ensures steady { Steady (line_kind mode) }
 {
-    match event(line)? {
+    match read_event(line)? {
         Event::Other => Ok(LineKind::Other),
         Event::Assign { rest, .. } => {
             read_reason(rest, mode)?;
             Ok(LineKind::Assign)
         }
         Event::DecideAndOr => Ok(LineKind::DecideAndOr),
-        Event::Conflict { literals } => check_literals(literals),
+        Event::Conflict { literals } => {
+            check_literals(literals)?;
+            Ok(LineKind::Conflict)
+        }
         Event::Push { .. } => Ok(LineKind::Push),
         Event::Pop { .. } => Ok(LineKind::Pop),
         Event::BeginCheck { .. } => Ok(LineKind::BeginCheck),

@@ -1,12 +1,13 @@
 // Literals, read from the words of a line.
 ghost use Rattle.std.specs.Prelude.{◌≡◌};
+ghost use Rattle.events.specs.declared.shapes.LineKind.TheVariants as LineKind;
 ghost use Rattle.words.specs.Left.{left, line_of, end, word_of};
 ghost use Rattle.events.specs.Laws.{NamedPart};
 ghost use Rattle.events.specs.Lines.{passed};
 ghost use Rattle.events.specs.Literals.{after_not, named, variable, bare, p_literal, prefixed, solver, next_literal, literals, given, Shorter};
 ghost use Rattle.events.specs.Shown.{read_of, word_read, named_read, next_shown};
 
-use crate::shapes::{LineKind, LiteralWord, Literals, Mode, NamedLiteral, SolverLiteral};
+use crate::shapes::{LiteralWord, Literals, Mode, NamedLiteral, SolverLiteral};
 use numbers::number_u32;
 use refusal::Refusal;
 use words::{Word, Words, same_bytes};
@@ -132,9 +133,9 @@ impl<'a> Literals<'a> {
 }
 
 // All literals that are left, looked at one by one.
-pub(crate) fn check_literals(mut list: Literals) -> Result<LineKind, Refusal>
-    ensures { result ≡ passed LineKind.Conflict (literals (end list.entry.rest) (left list.entry.rest)) }
+pub(crate) fn check_literals(mut list: Literals) -> Result<(), Refusal>
+    ensures { passed LineKind.Conflict result ≡ passed LineKind.Conflict (literals (end list.entry.rest) (left list.entry.rest)) }
 {
     while let Some(_literal) = list.next()? {}
-    Ok(LineKind::Conflict)
+    Ok(())
 }

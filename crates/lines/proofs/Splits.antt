@@ -1,5 +1,5 @@
 -- Lines of a text and its first line.
-use Rattle.std.proofs.Common.{◌≡◌, ℕ, suc, ◌+◌, ◌<◌, ◌≤◌, Bool, true, false, cond, not, List, [], ◌∷◌, ◌++◌, length, take, drop, Some, Option, sym, refl, ap, ◌∙◌, subst, add-one, one-add, arith}
+use Rattle.std.proofs.Common.{◌≡◌, ℕ, suc, ◌+◌, ◌<◌, ◌≤◌, Bool, true, false, cond, not, List, [], ◌∷◌, ◌++◌, length, take, drop, Some, sym, refl, ap, ◌∙◌, subst, add-one, one-add, arith}
 use Rattle.std.specs.List.{AllByRecursion}
 use Rattle.std.proofs.lemmas.List.{append_assoc, drop-drop, length-drop, take-append-drop, take_all}
 use Rattle.std.proofs.lemmas.List.Sums.{prefix_len-le-length}
@@ -108,9 +108,6 @@ first_cuts (b ∷ bs) =
 
 pub line_len_le : (text : List ℕ) → line_len text ≤ length text
 line_len_le text = prefix_len-le-length (λ b. not (feed b)) text
-
-pub cuts_by : (text : List ℕ) (r : Option (List ℕ × List ℕ)) → r ≡ first_line text → Cut text r
-cuts_by text r e = subst (Cut text) (sym e) (first_cuts text)
 
 pub first_line_by : (text line rest : List ℕ) → 0 < length text → line ≡ take (line_len text) text → rest ≡ drop 1 (drop (line_len text) text) → Some (line, rest) ≡ first_line text
 first_line_by [] line rest some front back = absurd (omega arith)

@@ -17,18 +17,11 @@ pub fn line_len(text: &[u8]) -> usize
 }
 
 // The first line and what follows its 0x0A; none where the text is empty.
-#[tactic(auto, using(crate::proofs::Splits::cuts_by, crate::proofs::Splits::split_laws))]
+#[tactic(auto, using(crate::proofs::Splits::line_len_le, crate::proofs::Splits::first_line_by, crate::proofs::Splits::first_cuts, crate::proofs::Splits::split_laws))]
 pub fn first_line(text: &[u8]) -> Option<(&[u8], &[u8])>
     ensures value { option_map both_now result ≡ first_line text.now }
-    ensures cases { Cut text.now (option_map both_now result) }
+    ensures cases { Cut text.now (first_line text.now) }
     ensures laws { Laws text.now }
-{
-    cut_line(text)
-}
-
-#[tactic(auto, using(crate::proofs::Splits::line_len_le, crate::proofs::Splits::first_line_by))]
-fn cut_line(text: &[u8]) -> Option<(&[u8], &[u8])>
-    ensures { option_map both_now result ≡ first_line text.now }
 {
     if text.is_empty() {
         return None;

@@ -1,5 +1,5 @@
 -- Numbers by their bytes: at a digit, at another byte, past the limit, after a sign.
-use Rattle.std.proofs.Common.{◌≡◌, ℕ, ◌+◌, ◌-◌, ◌*◌, ◌^◌, ◌<◌, ◌≤◌, Bool, true, false, cond, ◌&&◌, eqb, leb, List, [], ◌∷◌, length, get_or, pos, neg_ℤ, Some, None, Option, refl, ap, ◌∙◌, arith, ne_eqb}
+use Rattle.std.proofs.Common.{◌≡◌, ℕ, ◌+◌, ◌-◌, ◌*◌, ◌^◌, ◌<◌, ◌≤◌, Bool, true, false, cond, ◌&&◌, leb, List, [], ◌∷◌, length, get_or, pos, neg_ℤ, Some, None, refl, ap, ◌∙◌, arith, ne_eqb}
 use borrow.Author.Tests.{lt-leb}
 use Rattle.std.proofs.lemmas.Bool.Decides.{nat_tests}
 use Rattle.std.specs.Option.{option_map}
@@ -39,11 +39,6 @@ at_refused limit n c cs = refused_by limit n c cs (is_ascii_digit c) refl
 pub not_empty : (limit : ℕ) (cs : List ℕ) → 0 < length cs → unsigned limit cs ≡ digits_after limit 0 cs
 not_empty limit [] h = absurd (omega arith)
 not_empty limit (c ∷ cs) h = refl
-
--- the value, unless there is no digit
-pub unless_empty : (limit : ℕ) (cs : List ℕ) (r : Option ℕ) → r ≡ digits_after limit 0 cs → cond (eqb (length cs) 0) None r ≡ unsigned limit cs
-unless_empty limit [] r e = refl
-unless_empty limit (c ∷ cs) r e = ap (λ t. cond t None r) (ne_eqb (length (c ∷ cs)) 0 (λ e. omega arith)) ∙ e
 
 -- no sign in front
 pub after_plus_none : (cs : List ℕ) → (get_or cs 0 0 ≡ 43 → ⊥) → after_plus cs ≡ cs

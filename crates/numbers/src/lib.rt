@@ -8,7 +8,7 @@ ghost use Rattle.std.specs.Int.{w32};
 ghost use Rattle.std.specs.Option.{SomeIff, option_map};
 ghost use Rattle.std.specs.Fmt.{signed_decimal as written};
 ghost use Rattle.std.specs.Char.{is_ascii_digit};
-ghost use Rattle.numbers.specs.Numeral.{after_plus, numeral, unsigned, signed_numeral};
+ghost use Rattle.numbers.specs.Numeral.{after_plus, digits_after, numeral, unsigned, signed_numeral};
 
 // The number that the text writes, with at most one `+` in front.
 #[tactic(auto, using(crate::proofs::Decimal::read_back))]
@@ -20,18 +20,20 @@ pub fn number(text: &[u8], limit: u64) -> Option<u64>
 }
 
 // The number that the text writes, with no sign.
-#[tactic(auto, using(crate::proofs::Decimal::read_back))]
+#[tactic(auto, using(crate::proofs::Decimal::read_back, crate::proofs::Values::not_empty))]
 pub fn digits(text: &[u8], limit: u64) -> Option<u64>
     ensures value { result ≡ unsigned limit text.now }
     ensures laws { (n : ℕ) → n ≤ limit → unsigned limit (decimal n) ≡ Some n }
 {
-    let value = value_of(text, limit);
-    if text.is_empty() { None } else { value }
+    if text.is_empty() {
+        return None;
+    }
+    value_of(text, limit)
 }
 
 // The value of digits alone; no digits at all count as 0.
 fn value_of(text: &[u8], limit: u64) -> Option<u64>
-    ensures { (if nat_eq (length text.now) 0 then None else result) ≡ unsigned limit text.now }
+    ensures { result ≡ digits_after limit 0 text.now }
 {
     let mut value: u64 = 0;
     for b in text {

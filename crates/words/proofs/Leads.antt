@@ -1,5 +1,5 @@
 -- The longest front that passes a test, and what taking a word keeps.
-use Rattle.std.proofs.Common.{◌≡◌, ℕ, ◌+◌, ◌<◌, Bool, true, false, cond, List, [], ◌∷◌, ◌++◌, length, get_or, take, drop, refl, ap, ◌∙◌, ⊎_elim, one-add, arith}
+use Rattle.std.proofs.Common.{◌≡◌, ℕ, ◌+◌, ◌<◌, Bool, true, false, cond, List, [], ◌∷◌, ◌++◌, length, get_or, take, drop, refl, sym, subst, ap, ◌∙◌, ⊎_elim, one-add, arith}
 use Rattle.std.specs.List.{prefix_len, AllByRecursion}
 use Rattle.std.proofs.lemmas.List.{take-append-drop, length-take-le, length-drop, nil_from_length}
 use Rattle.std.proofs.ByRecursion.{All-weaker}
@@ -57,3 +57,6 @@ next_word_cuts line =
       none = no_word text (rest_stops separator line);
       shorter = λ some. omega arith;
     }
+
+pub cut_by : (line word rest : List ℕ) → (word, rest) ≡ next_word line → Cut line word rest
+cut_by line word rest e = subst (λ (p : List ℕ × List ℕ). Cut line p.0 p.1) (sym e) (next_word_cuts line)

@@ -1,9 +1,10 @@
 // What is left of a line, which knows its place there.
 ghost use Rattle.std.specs.Prelude.{◌≡◌, ◌≤◌, length};
+ghost use Rattle.std.specs.List.{AllByRecursion};
 ghost use Rattle.std.specs.Iterator.{YieldsFirstBy, MakesProgress, item_count};
-ghost use Rattle.words.specs.Words.{words};
+ghost use Rattle.words.specs.Words.{words, words_by, Stands};
 
-use crate::word_from;
+use crate::next_word;
 
 // A word and the place of its first byte in the line.
 #[derive(Clone, Copy, Debug, PartialEq, Eq)]
@@ -37,6 +38,19 @@ impl<'a> Words<'a> {
     {
         self.line.len()
     }
+
+    // The letters of the next word, empty where none is left, and the place after it.
+    fn first(self) -> (&'a [u8], usize)
+        ensures value { words_by (line_of self.entry) result.0.now result.1 ≡ left self.entry }
+        ensures letters { length result.0.now ≤ result.1 }
+        ensures within { result.1 ≤ end self.entry }
+        ensures parts { AllByRecursion (Stands 0 (line_of self.entry)) (left self.entry) }
+    {
+        let line = self.line;
+        let (_, text) = line.split_at(self.place);
+        let (letters, rest) = next_word(text);
+        (letters, line.len() - rest.len())
+    }
 }
 
 // The words that are left, from the first on.
@@ -56,8 +70,7 @@ impl<'a> Iterator for Words<'a> {
         ensures same { line_of self.new ≡ line_of self.old }
         ensures parts { Part (line_of self.old) result }
     {
-        let line = self.line;
-        let (letters, after) = word_from(line, self.place);
+        let (letters, after) = self.first();
         if letters.is_empty() {
             return None;
         }

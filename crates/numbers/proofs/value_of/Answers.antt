@@ -1,7 +1,7 @@
 use Rattle.std.proofs.Common.{◌≡◌, ◌+◌, get_or, drop, None, sym, ◌∙◌, rules}
 use Rattle.std.proofs.lemmas.List.{at_drop_more}
 use Rattle.numbers.specs.Numeral.{digits_after}
-use Rattle.numbers.proofs.Values.{at_refused, unless_empty}
+use Rattle.numbers.proofs.Values.{at_refused}
 use Rattle.numbers.proofs.value_of.Goals as goal
 
 pub returns-in_err-value : goal.returns-in_err-value
@@ -11,5 +11,5 @@ returns-in_err-value c =
     let ds = c.args.text.now in
     let i = c.loop-b.b-index in
     let none : c.from_residual.result ≡ None = search rules in
-    unless_empty limit ds _ (none ∙ sym (at_refused limit value (get_or ds i 0) (drop (i + 1) ds) c.in_err-value.ensures)
-    ∙ sym (at_drop_more (digits_after limit value) ds i 0 c.loop-b-test.true) ∙ c.loop-b.invariant.1)
+    none ∙ sym (at_refused limit value (get_or ds i 0) (drop (i + 1) ds) c.in_err-value.ensures)
+    ∙ sym (at_drop_more (digits_after limit value) ds i 0 c.loop-b-test.true) ∙ c.loop-b.invariant.1
