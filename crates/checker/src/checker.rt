@@ -2,7 +2,7 @@
 ghost use Rattle.std.specs.Prelude.{◌≡◌, ℕ, List, [], length, Some};
 ghost use Rattle.std.specs.Option.{option_map};
 ghost use Rattle.pieces.specs.Reader.{seen};
-ghost use Rattle.pieces.specs.Reading.{kept};
+ghost use Rattle.pieces.specs.Reading.{HasRoom, kept};
 ghost use Rattle.checker.specs.Answers.{answer_to, answers, mode_of, limit_of, counts_of, at_hand_of, checked, next_answer, last_answer, GoesOn, KeepsRules, HasRead};
 ghost use Rattle.checker.specs.Tallies.{tally_of, noted_after};
 
@@ -48,6 +48,7 @@ impl<'c> LogChecker<'c> {
         ensures after { counts_of self.new ≡ noted_after (counts_of self.old) result.0 }
         ensures rules { KeepsRules self.old self.new }
         ensures len { GoesOn result.0 result.1.now text.now }
+        ensures fits { HasRoom (limit_of self.new) (at_hand_of self.new) }
         ensures reads { (whole : List ℕ) → HasRead self.old whole text.now → HasRead self.new whole result.1.now }
     {
         let (found, left) = self.reader.join(text);
@@ -61,6 +62,7 @@ impl<'c> LogChecker<'c> {
         ensures after { counts_of self.new ≡ noted_after (counts_of self.old) result }
         ensures rules { KeepsRules self.old self.new }
         ensures empty { at_hand_of self.new ≡ kept [] }
+        ensures fits { HasRoom (limit_of self.new) (at_hand_of self.new) }
         ensures reads { (whole : List ℕ) → HasRead self.old whole [] → counts_of self.new ≡ tally_of (answers (mode_of self.old) (limit_of self.old) whole) }
     {
         let found = self.reader.finish();

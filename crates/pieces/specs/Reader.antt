@@ -1,11 +1,12 @@
 -- What a `LineReader` holds and finds, in the words of `Reading`.
 --   limit     the most bytes that a line may have, the length of the carry memory
 --   pending   the line at hand
+--   cut       the first `end` bytes; none where there are not so many
 --   part      the bytes of a span of the text or of the carry memory; none where it does not lie within
 --   seen      the outcome that is found, with the bytes of its span
 --   stepped   a step, from what was found and the text that is left, and the reader after it
 --   Onward    where a line ended, less text is left than before; where none did, nothing is left
-use Rattle.std.specs.Prelude.{◌≡◌, ℕ, ◌-◌, ◌<◌, cond, ◌&&◌, List, [], length, take, drop, Some, None, Ok, Err, Option, Result, nat_le}
+use Rattle.std.specs.Prelude.{◌≡◌, ℕ, ◌<◌, cond, List, [], length, take, Some, None, Ok, Err, Option, Result, nat_le}
 use Rattle.std.specs.Borrow.{Bor}
 use Rattle.pieces.specs.declared.Source.{Source}
 use Rattle.pieces.specs.declared.Source.TheVariants.{Piece, Carry}
@@ -24,11 +25,11 @@ abbrev pub within : Source → List ℕ → List ℕ → List ℕ
 within Piece text carry = text
 within Carry text carry = carry
 
-abbrev pub cut : ℕ → ℕ → List ℕ → List ℕ
-cut start end bytes = cond (nat_le start end && nat_le end (length bytes)) (take (end - start) (drop start bytes)) []
+abbrev pub cut : ℕ → List ℕ → List ℕ
+cut end bytes = cond (nat_le end (length bytes)) (take end bytes) []
 
 abbrev pub part : Span → List ℕ → List ℕ → List ℕ
-part s text carry = cut s.start s.end (within s.source text carry)
+part s text carry = cut s.end (within s.source text carry)
 
 abbrev pub seen : Option (Result Span TooLong) → List ℕ → LineReader → Option Outcome
 seen (Some (Ok s)) text r = Some (line (part s text r.carry))

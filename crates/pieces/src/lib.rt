@@ -18,7 +18,6 @@ pub enum Source {
 #[derive(Clone, Copy, Debug, PartialEq, Eq)]
 pub struct Span {
     source: Source,
-    start: usize,
     end: usize,
 }
 
@@ -56,17 +55,17 @@ impl<'c> LineReader<'c> {
         }
     }
 
-    // The bytes of a span; none where it does not lie within its memory.
+    // The bytes of a span, in the text that the `join` which found it was given; none where it does not lie within.
     pub fn line<'b>(&'b self, text: &'b [u8], span: Span) -> &'b [u8]
         ensures value { result.now ≡ part span text.now self.now.carry }
         ensures fits { HasRoom (limit self.now) (pending self.now) }
     {
-        let Span { source, start, end } = span;
+        let Span { source, end } = span;
         let whole = match source {
             Source::Piece => text,
             Source::Carry => &*self.carry,
         };
-        whole.get(start..end).unwrap_or(&[])
+        whole.get(..end).unwrap_or(&[])
     }
 
     // Looks for the end of the line at hand in what is left of a piece: what is found, and what is left then.
@@ -76,6 +75,7 @@ impl<'c> LineReader<'c> {
         ensures items { Hands (limit self.old) (pending self.old) text.now (stepped result text.now self.new) }
         ensures room { limit self.new ≡ limit self.old }
         ensures len { Onward result.0 result.1.now text.now }
+        ensures fits { HasRoom (limit self.new) (pending self.new) }
         ensures laws { Reads (limit self.old) }
     {
         let end = line_len(text);
@@ -93,6 +93,7 @@ impl<'c> LineReader<'c> {
         ensures value { (text : List ℕ) → seen result text self.new ≡ last_line (limit self.old) (pending self.old) }
         ensures after { pending self.new ≡ kept [] }
         ensures room { limit self.new ≡ limit self.old }
+        ensures fits { HasRoom (limit self.new) (pending self.new) }
         ensures items { due (limit self.old) (pending self.old) [] ≡ option_to_list (seen result [] self.new) }
     {
         if self.held == Some(0) {
@@ -111,7 +112,6 @@ impl<'c> LineReader<'c> {
         if self.held == Some(0) && end <= self.carry.len() {
             return Ok(Span {
                 source: Source::Piece,
-                start: 0,
                 end,
             });
         }
@@ -128,7 +128,6 @@ impl<'c> LineReader<'c> {
         let end = self.held.replace(0).ok_or(TooLong)?;
         Ok(Span {
             source: Source::Carry,
-            start: 0,
             end,
         })
     }
