@@ -43,3 +43,5 @@ module _ (ns : List Cdcl) where
     pub depths_all : length ds ≡ length ns → length ns ≤ k → ds ≡ all_depths ns
     unfolding DepthsBelow
     depths_all long high = fill_by_all at ds (length ns) 0 long (λ i lt. so i (omega arith))
+
+pub ruleset found = (depths_none, depths_lead, depth_fits, depths_root, depths_more, depths_all)

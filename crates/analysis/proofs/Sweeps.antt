@@ -61,3 +61,5 @@ module _ {M : Type 0} (e : M) (op : M → M → M) (laws : Lawful e op) (w : Cdc
   pub sweep_all : (i : ℕ) (xs : List M) → NodesSwept i xs → i ≤ 0 → xs ≡ all_totals e op w ns
   unfolding NodesSwept
   sweep_all i xs so done = swept_all (lead ns) (lead_below ns) e op laws (weight_at w ns) (length ns) xs (subst (λ j. NodesSwept j xs) (omega arith) so)
+
+pub ruleset swept = (sweep_none, sweep_root, sweep_lead, sweep_all)

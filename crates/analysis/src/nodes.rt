@@ -9,7 +9,7 @@ use refusal::Refusal;
 use tree::lead;
 
 // The depths of the nodes, from the first node up, each from that of its lead.
-#[tactic(auto, using(crate::proofs::Depths::depths_none, crate::proofs::Depths::depths_lead, crate::proofs::Depths::depth_fits, crate::proofs::Depths::depths_root, crate::proofs::Depths::depths_more, crate::proofs::Depths::depths_all))]
+#[tactic(auto, using(crate::proofs::Depths::found))]
 fn find_depths(nodes: &[Cdcl], depths: &mut [usize])
     requires { length depths.old ≡ length nodes.now }
     ensures { depths.new ≡ all_depths nodes.now }
@@ -24,14 +24,14 @@ fn find_depths(nodes: &[Cdcl], depths: &mut [usize])
 }
 
 // The totals of the nodes, from the last node down: what came from the nodes that lead to node k, joined with its own weight, is its total, and goes on to its lead.
-#[tactic(auto, using(crate::proofs::Sweeps::sweep_none, crate::proofs::Sweeps::sweep_root, crate::proofs::Sweeps::sweep_lead, crate::proofs::Sweeps::sweep_all))]
+#[tactic(auto, using(crate::proofs::Sweeps::swept))]
 fn sweep<M: Measure>(nodes: &[Cdcl], depths: &[usize], totals: &mut [M])
     requires found { depths.now ≡ all_depths nodes.now }
     requires long { length totals.old ≡ length nodes.now }
     ensures { totals.new ≡ all_totals M.Join.nothing M.Join.joined M.Measure.weight nodes.now }
 {
     fill(totals, M::unit());
-    // By number, as before; over the nodes from behind, the bounds at k stay open.
+    // By number: over `iter().enumerate().rev()` the bounds at k stay open.
     for k in (0..nodes.len()).rev() {
         let weight = M::weigh(nodes[k].kind, depths[k]);
         let total = totals[k].join(weight);

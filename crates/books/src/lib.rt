@@ -66,7 +66,6 @@ pub struct Listed<'a> {
 }
 
 impl<'a> Listed<'a> {
-    #[tactic(auto, using(crate::proofs::Places::listed_laws))]
     pub fn new(text: &'a [u8]) -> Self
         ensures value { result.text.now ≡ text.now }
         ensures laws { ListedLaws text.now }

@@ -48,9 +48,9 @@ named_fewer end [] = tt
 named_fewer end (w ∷ ws) = from_first_fewer (literal_word w.letters) end w ws
 
 next_of_fewer : (ws rest : List Placed) (n : Named) (r : Result (Option (Named × List Placed)) Refusal) → Fewer ws r → (Ok (Some n), rest) ≡ next_of ws r → length rest < length ws
-next_of_fewer ws rest n (Ok None) h e = let f = ap (λ p. p.0) e in let z : ◌≡◌ {A = ℕ} 0 1 = cc in absurd (omega arith)
+next_of_fewer ws rest n (Ok None) h e = let f = ap (λ p. p.0) e in cc
 next_of_fewer ws rest n (Ok (Some r)) h e = subst (λ (l : List Placed). length l < length ws) (sym (ap (λ p. p.1) e)) h
-next_of_fewer ws rest n (Err x) h e = let f = ap (λ p. p.0) e in let z : ◌≡◌ {A = ℕ} 0 1 = cc in absurd (omega arith)
+next_of_fewer ws rest n (Err x) h e = let f = ap (λ p. p.0) e in cc
 
 -- what a step of the cursor keeps
 module _ (end : ℕ) (ws rest : List Placed) where

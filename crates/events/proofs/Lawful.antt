@@ -152,7 +152,7 @@ worked = (refl, (refl, (refl, (refl, (refl, tt)))))
 -- the kind of a line is its event's case
 passed_kind : {A : Type 0} (k j : LineKind) (a : Result A Refusal) → passed k a ≡ Ok j → k ≡ j
 passed_kind k j (Ok x) e = cc
-passed_kind k j (Err r) e = let z : ◌≡◌ {A = ℕ} 0 1 = cc in absurd (omega arith)
+passed_kind k j (Err r) e = cc
 
 ok_kind : (k j : LineKind) → ◌≡◌ {A = Result LineKind Refusal} (Ok k) (Ok j) → k ≡ j
 ok_kind k j e = cc

@@ -240,7 +240,7 @@ cut_plain (l ∷ ls) (k, h) = named_plain l.0 l.1 (cut_words ls) k (cut_plain ls
 
 put_first_unplaced : (n : Named) (r : Result (List Named) Refusal) (ls : List (List ℕ × Bool)) → all_unplaced r ≡ Ok ls → all_unplaced (put_first n r) ≡ Ok (unplaced n ∷ ls)
 put_first_unplaced n (Ok ns) ls e = let same : map unplaced ns ≡ ls = cc in ap (λ l. Ok (unplaced n ∷ l)) same
-put_first_unplaced n (Err x) ls e = let z : ◌≡◌ {A = ℕ} 0 1 = cc in absurd (omega arith)
+put_first_unplaced n (Err x) ls e = cc
 
 cut_read : (ls : List (List ℕ × Bool)) → AllByRecursion (λ l. Id l.0 l.1) ls → (e p : ℕ) → all_unplaced (literals e (placed p (cut_words ls))) ≡ Ok ls
 cut_read [] h e p = refl

@@ -56,7 +56,7 @@ begun p text w ws e =
       apart = apart;
       is = ap (words p) (sym cut.whole.2) ∙ next_passed p cut.whole.0 word rest cut.whole.1 cut.plain some apart;
     })
-    (λ none. let nothing : [] ≡ w ∷ ws = sym (cut_none p text word rest cut (omega arith)) ∙ e in let z : ◌≡◌ {A = ℕ} 0 1 = cc in absurd (omega arith))
+    (λ none. let nothing : [] ≡ w ∷ ws = sym (cut_none p text word rest cut (omega arith)) ∙ e in cc)
     (cases_lt 0 (length word))
 
 head_is : (u v : Placed) (us vs : List Placed) → u ∷ us ≡ v ∷ vs → u ≡ v

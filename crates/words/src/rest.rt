@@ -1,5 +1,5 @@
 // What is left of a line, which knows its place there.
-ghost use Rattle.std.specs.Prelude.{◌≡◌, ◌≤◌, length};
+ghost use Rattle.std.specs.Prelude.{◌≡◌, ◌≤◌, length, ⊤};
 ghost use Rattle.std.specs.List.{AllByRecursion};
 ghost use Rattle.std.specs.Iterator.{YieldsFirstBy, MakesProgress, item_count};
 ghost use Rattle.words.specs.Words.{words, words_by, Stands};
@@ -65,10 +65,12 @@ impl<'a> Iterator for Words<'a> {
 
     #[tactic(auto, using(crate::proofs::Left::fewer))]
     fn next(&mut self) -> Option<Word<'a>>
-        ensures steps { YieldsFirstBy word_of left self.old result self.new }
-        ensures goes { MakesProgress (λ _. Unit {0}) (item_count left) self.old result self.new }
         ensures same { line_of self.new ≡ line_of self.old }
         ensures parts { Part (line_of self.old) result }
+
+        // What the trait asks.
+        ensures steps { YieldsFirstBy word_of left self.old result self.new }
+        ensures goes { MakesProgress (λ _. ⊤) (item_count left) self.old result self.new }
     {
         let (letters, after) = self.first();
         if letters.is_empty() {
