@@ -23,10 +23,10 @@ places 2a "readings of a run of bytes, apart from the test" 'fn (blank_len|word_
 places 2b "readers of numbers, apart from type and limit" 'fn (number|number_u64|number_u32|number_i32|digits|negative|positive)\b'
 places 2c "readings of one byte at an end" 'fn (strip_first|strip_last|after_plus|after_minus)\('
 places 2d "halves of a tally" 'struct (FirstCounts|LastCounts)'
-places 2e "a body apart from the laws of its call" 'fn (cut_word|numbered_below|listed_in|event|kind|lead_in|start|step|sweep_sizes|add|made|last)\b'
+places 2e "a body apart from the laws of its call" 'fn (cut_word|cut_line|numbered_below|listed_in|event|kind|lead_in|start|step|sweep_sizes|add|made|last)\b'
 
 places 3a "indices and counts kept by hand" '\b\w+ [-+]= [0-9]|for \w+ in [0-9]+\.\.'
-places 3b "cursors with a next of their own" 'fn next\b'
+places 3b "functions named next, of iterators too" 'fn next\b'
 
 places 4a "equality by a function" 'same_bytes\('
 places 4b "casts" ' as (u|i)(8|16|32|64|size)\b'
