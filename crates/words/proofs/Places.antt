@@ -1,5 +1,5 @@
 -- The words of a text: one after the other, by the next word, and each a part of the text at its place.
-use Rattle.std.proofs.Common.{◌≡◌, ℕ, suc, ◌+◌, ◌-◌, ◌<◌, ◌≤◌, Bool, true, false, cond, not, List, [], ◌∷◌, ◌++◌, length, get_or, take, drop, sym, refl, ap, ◌∙◌, subst, ⊎_elim, append_assoc, add-zero, arith}
+use Rattle.std.proofs.Common.{◌≡◌, ℕ, suc, ◌+◌, ◌-◌, ◌<◌, Bool, true, false, cond, not, List, [], ◌∷◌, ◌++◌, length, get_or, take, drop, sym, refl, ap, ◌∙◌, subst, ⊎_elim, append_assoc, add-zero, arith}
 use Rattle.std.specs.List.{AllByRecursion}
 use Rattle.std.proofs.lemmas.List.{length-append, length-drop, take-append-drop, drop_at, drop-drop}
 use Rattle.std.proofs.ByRecursion.{All-weaker}
@@ -118,9 +118,6 @@ module _ (p : ℕ) (line text word rest : List ℕ) (is : text ≡ drop p line) 
 
   long : length text ≡ length cut.whole.0 + (length word + length rest)
   long = ap length (sym cut.whole.2) ∙ length-append cut.whole.0 (word ++ rest) ∙ ap (λ n. length cut.whole.0 + n) (length-append word rest)
-
-  pub left_fits : length word ≤ length line - length rest
-  left_fits = omega (arith, long, ap length is, length-drop p line)
 
   rest_is : drop (length line - length rest) line ≡ rest
   rest_is =
