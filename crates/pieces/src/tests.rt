@@ -7,10 +7,7 @@ fn bytes<'x>(
     reader: &'x LineReader,
     text: &'x [u8],
 ) -> Option<Result<&'x [u8], TooLong>> {
-    match found? {
-        Ok(span) => Some(Ok(reader.line(text, span))),
-        Err(e) => Some(Err(e)),
-    }
+    Some(found?.map(|span| reader.line(text, span)))
 }
 
 #[test]

@@ -2,7 +2,7 @@
 #![tactic(auto)]
 
 use analysis::{AssignData, TermData, TreeAssignment, charges, size_costs, totals};
-use anyhow::anyhow;
+use anyhow::bail;
 use items::{Assignment, Cdcl, CdclKind, Conflict, Run};
 use measures::{Join, Measure, Reach, Size};
 use tree::ToRoot;
@@ -157,7 +157,7 @@ fn large(rt: &(impl Print + Alloc)) -> anyhow::Result<()> {
             && totals(&nodes, &mut depths, &mut reaches).is_ok();
         let (Some(size), Some(reach), Some(term)) = (sizes.first(), reaches.first(), terms.first())
         else {
-            return Err(anyhow!("no nodes"));
+            bail!("no nodes");
         };
         let (size, reach) = (size.total, reach.depth);
         let (count, charge) = (term.positive.count, term.positive.charge.total);
