@@ -1,5 +1,5 @@
 -- Assignments within the tables.
-use Rattle.std.proofs.Common.{◌≡◌, ℕ, ◌<◌, Bool, true, false, cond, ◌&&◌, ltb, List, [], ◌∷◌, map, length, get_or, take, drop, fold, count_by, filter, Ok, Err, sym, refl, ap, ◌∙◌, arith}
+use Rattle.std.proofs.Common.{◌≡◌, ℕ, ◌<◌, ◌≤◌, Bool, true, false, cond, ltb, List, [], ◌∷◌, map, length, get_or, take, drop, fold, count_by, filter, Ok, sym, refl, ap, ◌∙◌, arith}
 use Rattle.std.specs.List.{range_with_len}
 use Rattle.std.proofs.lemmas.Grind.{common_steps}
 use Rattle.std.proofs.lemmas.List.{take_at}
@@ -9,11 +9,10 @@ use Rattle.analysis.specs.declared.data.TermData.{TermData}
 use Rattle.analysis.specs.declared.data.TreeAssignment.{TreeAssignment}
 use Rattle.items.specs.declared.cdcl.Cdcl.{Cdcl}
 use Rattle.items.specs.declared.cdcl.CdclKind.{CdclKind}
-use Rattle.refusal.specs.declared.refusals.Refusal.TheVariants.{BadTables}
 use Rattle.analysis.specs.Answers.{judged, overwritten}
 use Rattle.analysis.specs.Charges.{counts, tally, data_of, all_data, charged, fits, within}
-use Rattle.analysis.specs.Costs.{costs, costed}
-use Rattle.analysis.specs.Totals.{total, all_depths, all_totals, enough, totalled}
+use Rattle.analysis.specs.Costs.{accepted, costs, costed}
+use Rattle.analysis.specs.Totals.{total, all_depths, all_totals}
 
 pub within_at : (n m : ℕ) (xs : List TreeAssignment) (i : ℕ) (d : TreeAssignment) → within n m xs ≡ true → i < length xs → ((get_or xs i d).node < n) × ((get_or xs i d).term.literal < m)
 within_at n m xs i d all lt = (grind (arith, common_steps), grind (arith, common_steps))
@@ -51,16 +50,11 @@ charged_costs e op w ns ts table m xs written all =
     ∙ ap (λ l. charged e op l m xs) (take_at (all_totals e op w ns) (drop (length (all_totals e op w ns)) ts) n (length-map-range_with_len T 0 n))
     ∙ same_data n m (λ k. get_or (all_totals e op w ns) k e) T (λ k lt. get_or-map-range_with_len T 0 n k k e lt (omega arith)) e op xs all
 
--- what a call writes and answers, where the totals are found
-pub costs_done : {M : Type 0} (e : M) (op : M → M → M) (w : CdclKind → ℕ → M) (ns : List Cdcl) (xs : List TreeAssignment) (ds ds' : List ℕ) (ts ts' : List M) (ms ms' : List (TermData M)) (u : Unit {0}) → true ≡ within (length ns) (length ms) xs
-    → (Ok u, (ds', ts')) ≡ totalled e op w ns ds ts → ms' ≡ charged e op (take (length ns) ts') (length ms) xs → (Ok tt, (ds', ts', ms')) ≡ costed e op w ns xs ds ts ms
-costs_done {M} e op w ns xs ds ds' ts ts' ms ms' u all found charges = step (enough (length ns) ds ts) found
-  where
-    step : (t : Bool) → (Ok tt, (ds', ts')) ≡ judged {X = List ℕ × List M} t (overwritten (all_depths ns) ds, overwritten (all_totals e op w ns) ts) (ds, ts)
-        → (Ok tt, (ds', ts', ms')) ≡ judged {X = List ℕ × List M × List (TermData M)} (t && within (length ns) (length ms) xs) (overwritten (all_depths ns) ds, overwritten (all_totals e op w ns) ts, costs e op w ns (length ms) xs) (ds, ts, ms)
-    step false eq = let refused : Ok tt ≡ Err BadTables = ap (λ p. p.0) eq in cc
-    step true eq =
-        let table : ts' ≡ overwritten (all_totals e op w ns) ts = ap (λ p. p.1.1) eq in
-        let depths : ds' ≡ overwritten (all_depths ns) ds = ap (λ p. p.1.0) eq in
-        let terms : ms' ≡ costs e op w ns (length ms) xs = charges ∙ charged_costs e op w ns ts ts' (length ms) xs table (sym all) in
-        (λ i. (Ok tt, (depths i, table i, terms i))) ∙ sym (ap (λ t. judged {X = List ℕ × List M × List (TermData M)} t (overwritten (all_depths ns) ds, overwritten (all_totals e op w ns) ts, costs e op w ns (length ms) xs) (ds, ts, ms)) (sym all))
+-- what a call writes and answers, where its tables suffice
+pub costs_done : {M : Type 0} (e : M) (op : M → M → M) (w : CdclKind → ℕ → M) (ns : List Cdcl) (xs : List TreeAssignment) (ds ds' : List ℕ) (ts ts' : List M) (ms ms' : List (TermData M)) → length ns ≤ length ds → length ns ≤ length ts
+    → within (length ns) (length ms) xs ≡ true → ds' ≡ overwritten (all_depths ns) ds → ts' ≡ overwritten (all_totals e op w ns) ts → ms' ≡ charged e op (take (length ns) ts') (length ms) xs → (Ok tt, (ds', ts', ms')) ≡ costed e op w ns xs ds ts ms
+costs_done {M} e op w ns xs ds ds' ts ts' ms ms' deep long all depths table charges =
+    let yes : accepted ns xs ds ts (length ms) ≡ true = grind (arith, common_steps) in
+    let terms : ms' ≡ costs e op w ns (length ms) xs = charges ∙ charged_costs e op w ns ts ts' (length ms) xs table all in
+    (λ i. (Ok tt, (depths i, table i, terms i)))
+    ∙ sym (ap (λ t. judged {X = List ℕ × List M × List (TermData M)} t (overwritten (all_depths ns) ds, overwritten (all_totals e op w ns) ts, costs e op w ns (length ms) xs) (ds, ts, ms)) yes)

@@ -7,6 +7,7 @@ ghost use Rattle.std.specs.Prelude.{◌≡◌};
 ghost use Rattle.measures.specs.Measures.{empty_size, size_sum, size_weight};
 ghost use Rattle.analysis.specs.Costs.{costed, Exact, Worked};
 
+use crate::nodes::sweep_front;
 use crate::terms::{charge_all, within};
 use items::Cdcl;
 use measures::{Measure, Size};
@@ -22,6 +23,7 @@ pub use nodes::totals;
 pub use terms::charges;
 
 // The totals of the nodes, and by these the counts and charges of the terms.
+#[tactic(auto, using(crate::proofs::Within::costs_done))]
 pub fn costs<M: Measure>(
     nodes: &[Cdcl],
     assignments: &[TreeAssignment],
@@ -31,11 +33,12 @@ pub fn costs<M: Measure>(
 ) -> Result<(), Refusal>
     ensures { (result, (depths.new, totals.new, terms.new)) ≡ costed M.Join.nothing M.Join.joined M.Measure.weight nodes.now assignments.now depths.old totals.old terms.old }
 {
-    if !within(assignments, nodes.len(), terms.len()) {
+    let count = nodes.len();
+    if depths.len() < count || totals.len() < count || !within(assignments, count, terms.len()) {
         return Err(Refusal::BadTables);
     }
-    nodes::totals(nodes, depths, totals)?;
-    charge_all(assignments, &totals[..nodes.len()], terms);
+    sweep_front(nodes, depths, totals);
+    charge_all(assignments, &totals[..count], terms);
     Ok(())
 }
 

@@ -1,5 +1,6 @@
 // The totals of the nodes, from the last node down to the first.
-ghost use Rattle.std.specs.Prelude.{◌≡◌, length};
+ghost use Rattle.std.specs.Prelude.{◌≡◌, ◌≤◌, length};
+ghost use Rattle.analysis.specs.Answers.{overwritten};
 ghost use Rattle.analysis.specs.Totals.{all_depths, all_totals, totalled};
 
 use crate::entries::fill;
@@ -42,6 +43,19 @@ fn sweep<M: Measure>(nodes: &[Cdcl], depths: &[usize], totals: &mut [M])
     }
 }
 
+// Over the first entries of longer tables.
+pub(crate) fn sweep_front<M: Measure>(nodes: &[Cdcl], depths: &mut [usize], totals: &mut [M])
+    requires depths { length nodes.now ≤ length depths.old }
+    requires totals { length nodes.now ≤ length totals.old }
+    ensures depths { depths.new ≡ overwritten (all_depths nodes.now) depths.old }
+    ensures totals { totals.new ≡ overwritten (all_totals M.Join.nothing M.Join.joined M.Measure.weight nodes.now) totals.old }
+{
+    let count = nodes.len();
+    let depths = &mut depths[..count];
+    find_depths(nodes, depths);
+    sweep(nodes, depths, &mut totals[..count]);
+}
+
 // Each node's total: the weights of all nodes whose way to the root passes through it, joined. Its depth beside it.
 pub fn totals<M: Measure>(
     nodes: &[Cdcl],
@@ -54,8 +68,6 @@ pub fn totals<M: Measure>(
     if depths.len() < count || totals.len() < count {
         return Err(Refusal::BadTables);
     }
-    let depths = &mut depths[..count];
-    find_depths(nodes, depths);
-    sweep(nodes, depths, &mut totals[..count]);
+    sweep_front(nodes, depths, totals);
     Ok(())
 }

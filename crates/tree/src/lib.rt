@@ -30,7 +30,9 @@ pub fn lead(nodes: &[Cdcl], number: usize) -> Option<usize>
 pub fn depth(nodes: &[Cdcl], number: usize) -> Result<usize, Refusal>
     ensures { result ≡ depth_from nodes.now number }
 {
-    Ok(ToRoot::new(nodes, number)?.skip(1).count())
+    let mut way = ToRoot::new(nodes, number)?;
+    way.next();
+    Ok(way.count())
 }
 
 #[cfg(test)]
