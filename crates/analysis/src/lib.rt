@@ -33,6 +33,7 @@ pub fn costs<M: Measure>(
 ) -> Result<(), Refusal>
     ensures { (result, (depths.new, totals.new, terms.new)) ≡ costed M.Join.nothing M.Join.joined M.Measure.weight nodes.now assignments.now depths.old totals.old terms.old }
 {
+    // The lengths first: short tables are refused without a look at any assignment.
     let count = nodes.len();
     if depths.len() < count || totals.len() < count || !within(assignments, count, terms.len()) {
         return Err(Refusal::BadTables);

@@ -43,7 +43,7 @@ fn sweep<M: Measure>(nodes: &[Cdcl], depths: &[usize], totals: &mut [M])
     }
 }
 
-// Over the first entries of longer tables.
+// The depths and the totals, written over the first entries of longer tables.
 pub(crate) fn sweep_front<M: Measure>(nodes: &[Cdcl], depths: &mut [usize], totals: &mut [M])
     requires depths { length nodes.now ≤ length depths.old }
     requires totals { length nodes.now ≤ length totals.old }
